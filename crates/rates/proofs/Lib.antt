@@ -1,0 +1,3 @@
+pub mod FirstPlace
+pub mod Tables
+pub mod Levels

@@ -1,0 +1,5 @@
+pub mod Lawful
+pub mod Refusal
+pub mod Judged
+pub mod Table
+pub mod Policy

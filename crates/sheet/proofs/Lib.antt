@@ -1,0 +1,8 @@
+mod CueWords
+mod CueSteps
+mod RateSteps
+mod CueBounds
+mod ReadBack
+mod WriteBack
+mod WhatWasWritten
+mod FaultPlaces

@@ -1,0 +1,12 @@
+//! The surtitle box's rules a second time, in plain Rust.
+//!
+//! Nothing here is shared with the verified programs: both sides were written
+//! from the same rules, so that a misreading on one side shows up as a
+//! difference. The `compare` program looks for such differences.
+
+pub mod loading;
+pub mod random;
+pub mod rates;
+pub mod sheet;
+pub mod sheetcheck;
+pub mod word;
