@@ -1,0 +1,5 @@
+pub mod Turns
+pub mod Plays
+pub mod Taking
+pub mod Waits
+pub mod Sums

@@ -1,0 +1,4 @@
+pub mod Requests
+pub mod Tape
+pub mod Sheet
+pub mod Order
