@@ -1,10 +1,10 @@
 -- The four words of a cue, as the words are read one at a time.
 use Prim.Native.Nat.{ℕ, _+_, _-_, _≤_}
-use mathlib.Core.Bool.{Bool, true, false, cond}
-use mathlib.Core.List.{List, [], _∷_, _++_}
-use mathlib.Core.Path.{_≡_, refl, ap, sym, _∙_}
+use mathlib.Core.Bool.{true, false}
+use mathlib.Core.List.{List, [], _∷_}
+use mathlib.Core.Path.{_≡_, refl, _∙_}
 use native.Mathlib.Omega.{arith}
-use lib.ListN.{length, getD, drop}
+use lib.ListN.{length, getD}
 use Rattle.std.specs.declared.result.Result.the-variants.{Ok, Err}
 use Rattle.words.specs.declared.Kind.the-variants.{Release, Deadline, Budget, Spent}
 use Rattle.words.specs.Words.{is, payload}
@@ -12,7 +12,7 @@ use Rattle.sheet.specs.declared.fault.WordFault.{WordFault}
 use Rattle.sheet.specs.declared.fault.WordFault.the-variants.{Misplaced, EndsEarly}
 use Rattle.sheet.specs.declared.fault.CueFault.the-variants.{BadWord as cue-word}
 use Rattle.sheet.specs.declared.fault.SheetFault.the-variants.{BadCue}
-use Rattle.sheet.specs.Reading.{Entry, Reading, Part, none, released, due, budgeted, cues-from, cue-taken}
+use Rattle.sheet.specs.Reading.{Entry, Reading, none, released, due, budgeted, cues-from}
 use Rattle.sheet.specs.Parts.{at-end, after-words}
 
 module _ (place : ℕ) (rates : List ℕ) (before : List Entry) where

@@ -2,7 +2,7 @@
 use Prim.Native.Nat.{ℕ, _+_, _-_, _≤_}
 use mathlib.Core.Bool.{cond}
 use mathlib.Core.List.{List, [], _∷_, _++_}
-use mathlib.Core.Path.{_≡_, refl, subst}
+use mathlib.Core.Path.{_≡_, subst}
 use native.Mathlib.Omega.{arith}
 use lib.Dec.{eqb, ltb}
 use lib.ListN.{length}
@@ -23,7 +23,7 @@ use Rattle.sheet.specs.declared.fault.ReadError.{ReadError}
 use Rattle.sheet.specs.declared.fault.ReadError.the-variants.{Fault, NoMemory}
 use Rattle.sheet.specs.declared.read.ReadSheet.{ReadSheet}
 use Rattle.sheet.specs.Fault.{fault-place}
-use Rattle.sheet.specs.Reading.{Entry, Contents, Reading, Part, none, released, due, budgeted, ended, cues-from, cue-taken, rates-from, table-judged, reading}
+use Rattle.sheet.specs.Reading.{Entry, Contents, Reading, Part, none, released, due, budgeted, ended, cues-from, cue-taken, rates-from, reading}
 use Rattle.sheet.specs.Sheets.{ReadAs, Placed}
 
 -- A fault, if there is one, stands at this place at the latest.

@@ -11,14 +11,14 @@ use Rattle.std.proofs.shelf.Lists.{at-drop-more, at-drop-all}
 use Rattle.words.specs.declared.Kind.the-variants.{Rate}
 use Rattle.words.specs.Words.{is, payload}
 use Rattle.std.specs.declared.result.Result.the-variants.{Ok, Err}
-use Rattle.std.specs.declared.option.Option.the-variants.{Some, None}
+use Rattle.std.specs.declared.option.Option.the-variants.{Some}
 use Rattle.rates.specs.declared.table.RateTable.{RateTable}
 use Rattle.rates.specs.declared.refusal.TableRefusal.{TableRefusal}
 use Rattle.rates.specs.Judged.{judged}
 use Rattle.sheet.specs.declared.fault.WordFault.the-variants.{EndsEarly}
 use Rattle.sheet.specs.declared.fault.SheetFault.the-variants.{BadWord as sheet-word, BadTable}
 use Rattle.sheet.specs.declared.fault.SheetFault.{SheetFault}
-use Rattle.sheet.specs.Reading.{Reading, none, cues-from, rates-from, table-judged}
+use Rattle.sheet.specs.Reading.{none, cues-from, rates-from, table-judged}
 use Rattle.sheet.specs.Parts.{at-rate, Rates, Judged, Table}
 
 pub rate-read : (words before : List ℕ) (place : ℕ) → place < length words → is Rate (getD words place 0) ≡ true → rates-from place before (drop place words) ≡ rates-from (place + 1) (before ++ (payload (getD words place 0) ∷ [])) (drop (place + 1) words)

@@ -1,6 +1,6 @@
 -- Words that are read are the words of what is read, and that is sound.
-use Prim.Native.Nat.{ℕ, _+_, _-_, _≤_, _<_, _^_, _%_}
-use mathlib.Core.Bool.{true, cond}
+use Prim.Native.Nat.{ℕ, _+_, _-_, _≤_, _<_}
+use mathlib.Core.Bool.{true}
 use mathlib.Core.List.{List, [], _∷_, _++_, map, append-assoc}
 use mathlib.Core.Path.{_≡_, refl, sym, ap, subst, _∙_}
 use native.Mathlib.Nat.{mod-lt}

@@ -4,7 +4,7 @@ use mathlib.Core.Bool.{Bool, true, false, cond}
 use mathlib.Core.List.{List, [], _∷_, _++_, map}
 use mathlib.Core.Path.{_≡_}
 use lib.Dec.{ltb, eqb}
-use lib.ListN.{length, getD, drop}
+use lib.ListN.{length, drop}
 use Rattle.std.specs.declared.option.Option.{Option}
 use Rattle.std.specs.declared.option.Option.the-variants.{Some, None}
 use Rattle.std.specs.declared.result.Result.{Result}
@@ -27,7 +27,7 @@ use Rattle.sheet.specs.declared.fault.ReadError.the-variants.{Fault, NoMemory}
 use Rattle.cues.specs.declared.list.CueList.{CueList}
 use Rattle.cues.specs.declared.refusal.ListRefusal.{ListRefusal}
 use Rattle.cues.specs.declared.refusal.ListRefusal.the-variants.{Full, NoMemory as no-memory}
-use Rattle.cues.specs.CueLists.{cues-of, Pushed}
+use Rattle.cues.specs.CueLists.{cues-of}
 use Rattle.sheet.specs.Reading.{Entry, Contents, Reading, none, cues-from, cue-taken, rates-from, reading}
 
 -- The four numbers of a cue.

@@ -1,21 +1,18 @@
 -- How the words of a sheet are read: what they hold, or the fault at the earliest place.
 use Prim.Native.Nat.{ℕ, _+_, _-_}
-use mathlib.Core.Bool.{Bool, cond}
+use mathlib.Core.Bool.{cond}
 use mathlib.Core.List.{List, [], _∷_, _++_}
 use lib.Dec.{eqb, ltb}
 use lib.ListN.{length}
-use Rattle.std.specs.declared.option.Option.{Option}
 use Rattle.std.specs.declared.option.Option.the-variants.{Some, None}
 use Rattle.std.specs.declared.result.Result.{Result}
 use Rattle.std.specs.declared.result.Result.the-variants.{Ok, Err}
-use Rattle.words.specs.declared.Kind.{Kind}
 use Rattle.words.specs.declared.Kind.the-variants.{Release, Deadline, Budget, Spent, Rate, End}
 use Rattle.words.specs.Words.{is, payload}
 use Rattle.rates.specs.Judged.{judged}
 use Rattle.cues.specs.Cues.{cue-refusal}
 use Rattle.sheet.specs.declared.fault.WordFault.{WordFault}
 use Rattle.sheet.specs.declared.fault.WordFault.the-variants.{Misplaced, EndsEarly}
-use Rattle.sheet.specs.declared.fault.CueFault.{CueFault}
 use Rattle.sheet.specs.declared.fault.CueFault.the-variants.{BadWord as cue-word, Refused}
 use Rattle.sheet.specs.declared.fault.SheetFault.{SheetFault}
 use Rattle.sheet.specs.declared.fault.SheetFault.the-variants.{BadWord as sheet-word, BadCue, BadTable, TooManyCues}

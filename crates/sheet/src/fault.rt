@@ -1,6 +1,5 @@
 //! What can be wrong with a sheet, in layers: a fault of a word becomes the fault of a cue, and that the fault of the
 //! sheet. Each layer adds its place and holds the lower fault whole.
-ghost use Prim.Native.Nat.{ℕ};
 ghost use mathlib.Core.Path.{_≡_};
 ghost use Rattle.sheet.specs.declared.fault.CueFault.the-variants.{BadWord as cue-word, Refused as cue-refused};
 ghost use Rattle.sheet.specs.declared.fault.SheetFault.the-variants.{BadWord as sheet-word, BadCue, BadTable};

@@ -1,9 +1,8 @@
 //! Reading the words of a sheet, one part after the other.
-ghost use Prim.Native.Nat.{ℕ, _+_, _≤_, _<_, _^_};
-ghost use mathlib.Core.Bool.{true};
+ghost use Prim.Native.Nat.{_+_, _≤_, _<_, _^_};
 ghost use mathlib.Core.Path.{_≡_};
-ghost use mathlib.Core.List.{List, _++_, _∷_, []};
-ghost use lib.ListN.{length, getD, drop};
+ghost use mathlib.Core.List.{[]};
+ghost use lib.ListN.{length, drop};
 ghost use Rattle.std.specs.declared.option.Option.the-variants.{Some, None};
 ghost use Rattle.std.specs.declared.result.Result.the-variants.{Ok, Err};
 ghost use Rattle.sheet.specs.Parts.{CueWords, NextCue, EndWord, Cues, Added, not-added, entries-of, CueAt, EndAt, Rates, Judged, Table, Edition, Whole};

@@ -1,6 +1,8 @@
 //! What is told of a sheet.
 ghost use Rattle.std.specs.Vec.{made};
+ghost use Rattle.std.specs.declared.option.Option.the-variants.{Some};
 ghost use Rattle.sheetcheck.specs.Report.{Reports, Summarizes};
+ghost use Rattle.sheetcheck.specs.Shown.{report-lines, summary-lines, verdict-line, load-line, rates-line};
 use rates::RateTable;
 use sheet::SheetFaultDisplay;
 use sheet::admitted::NotAdmitted;
@@ -24,10 +26,30 @@ pub enum Report {
 pub struct Summary {
     table: RateTable,
     cues: usize,
-    /// The loading factor: demand, length, start and end.
-    load: (u32, u32, u32, u32),
-    /// Why it is not admitted.
-    refusal: Option<SheetFault>,
+    load: Load,
+    verdict: Verdict,
+}
+
+/// The loading factor of a sheet.
+#[derive(Clone, Copy)]
+pub struct Load {
+    demand: u32,
+    length: u32,
+    start: u32,
+    end: u32,
+}
+
+/// Whether a sheet is admitted, and why not.
+#[derive(Clone, Copy)]
+pub enum Verdict {
+    Admitted,
+    Refused(SheetFault),
+}
+
+/// The rates of a table, to be shown on a line.
+#[derive(Clone, Copy)]
+struct Rates {
+    table: RateTable,
 }
 
 /// What is told of the sheet that these bytes are.
@@ -47,21 +69,29 @@ fn summary_of(heap: Global, sheet: ReadSheet) -> Result<Summary, AllocError>
 {
     let table = *sheet.table();
     let cues = sheet.cues().len();
-    let load = sheet.loading_factor(heap)?;
-    let refusal = match sheet.admit(heap) {
-        Ok(_) => None,
-        Err(NotAdmitted::Refused { fault, .. }) => Some(fault),
+    let (demand, length, start, end) = sheet.loading_factor(heap)?;
+    let load = Load {
+        demand,
+        length,
+        start,
+        end,
+    };
+    let verdict = match sheet.admit(heap) {
+        Ok(_) => Verdict::Admitted,
+        Err(NotAdmitted::Refused { fault, .. }) => Verdict::Refused(fault),
         Err(NotAdmitted::NoMemory { .. }) => return Err(AllocError),
     };
     Ok(Summary {
         table,
         cues,
         load,
-        refusal,
+        verdict,
     })
 }
 
 pub impl fmt::Display for Report as ReportDisplay {
+    ghost shown = { λ r. Some (report-lines r) };
+
     fn fmt<W: fmt::Write>(&self, f: &mut fmt::Formatter<W>) -> fmt::Result {
         match self {
             Report::Unreadable(fault) => write!(f, "{fault}"),
@@ -72,18 +102,48 @@ pub impl fmt::Display for Report as ReportDisplay {
 
 /// The rates, the number of cues, the loading factor and the verdict, a line each.
 pub impl fmt::Display for Summary as SummaryDisplay {
+    ghost shown = { λ s. Some (summary-lines s) };
+
+    fn fmt<W: fmt::Write>(&self, f: &mut fmt::Formatter<W>) -> fmt::Result {
+        let rates = Rates { table: self.table };
+        let cues = self.cues;
+        let load = self.load;
+        let verdict = self.verdict;
+        write!(f, "{rates}\ncues {cues}\n{load}\n{verdict}")
+    }
+}
+
+pub impl fmt::Display for Load as LoadDisplay {
+    ghost shown = { λ l. Some (load-line l) };
+
+    fn fmt<W: fmt::Write>(&self, f: &mut fmt::Formatter<W>) -> fmt::Result {
+        let demand = self.demand;
+        let length = self.length;
+        let start = self.start;
+        let end = self.end;
+        write!(f, "load {demand} of {length} in {start} to {end}")
+    }
+}
+
+pub impl fmt::Display for Verdict as VerdictDisplay {
+    ghost shown = { λ v. Some (verdict-line v) };
+
+    fn fmt<W: fmt::Write>(&self, f: &mut fmt::Formatter<W>) -> fmt::Result {
+        match self {
+            Verdict::Admitted => write!(f, "admitted"),
+            Verdict::Refused(fault) => write!(f, "{fault}"),
+        }
+    }
+}
+
+impl fmt::Display for Rates as RatesDisplay {
+    ghost shown = { λ r. Some (rates-line (r .table)) };
+
     fn fmt<W: fmt::Write>(&self, f: &mut fmt::Formatter<W>) -> fmt::Result {
         write!(f, "rates")?;
         for rate in self.table.as_slice() {
             write!(f, " {rate}")?;
         }
-        let cues = self.cues;
-        let (demand, length, start, end) = self.load;
-        writeln!(f, "\ncues {cues}")?;
-        writeln!(f, "load {demand} of {length} in {start} to {end}")?;
-        match self.refusal {
-            Some(fault) => write!(f, "{fault}"),
-            None => write!(f, "admitted"),
-        }
+        Ok(())
     }
 }

@@ -12,10 +12,3 @@ whole-more (a ∷ []) h = absurd (omega arith)
 whole-more (a ∷ (b ∷ [])) h = absurd (omega arith)
 whole-more (a ∷ (b ∷ (c ∷ []))) h = absurd (omega arith)
 whole-more (a ∷ (b ∷ (c ∷ (d ∷ rest)))) h = refl
-
-pub whole-none : (bytes : List ℕ) → length bytes ≤ 3 → whole bytes ≡ []
-whole-none [] h = refl
-whole-none (a ∷ []) h = refl
-whole-none (a ∷ (b ∷ [])) h = refl
-whole-none (a ∷ (b ∷ (c ∷ []))) h = refl
-whole-none (a ∷ (b ∷ (c ∷ (d ∷ rest)))) h = absurd (omega arith)

@@ -1,8 +1,6 @@
 //! Reading a sheet from words or bytes, and looking at what it holds.
 ghost use mathlib.Core.Path.{_≡_};
 ghost use Rattle.std.specs.Vec.{made};
-ghost use Rattle.cues.specs.CueLists.{cues-of};
-ghost use Rattle.cues.specs.Cues.{jobs-of};
 ghost use Rattle.cues.specs.Loading.{Loading};
 ghost use Rattle.sheet.specs.Sheets.{ReadAs, ReadBytesAs, Placed, end-place, jobs};
 ghost use Rattle.sheet.specs.SheetWords.{Written, WrittenBytes};

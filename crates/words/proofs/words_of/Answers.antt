@@ -1,13 +1,12 @@
 use borrow.Author.Needs.{needs}
 use Prim.Native.Nat.{_≤_}
-use mathlib.Core.Path.{_≡_, ap, sym, _∙_}
-use mathlib.Core.List.{_++_, _∷_, [], append-assoc, append-nil}
-use native.Mathlib.Omega.{arith}
+use mathlib.Core.Path.{ap, sym, _∙_}
+use mathlib.Core.List.{_++_, _∷_, [], append-assoc}
 use lib.ListN.{length, drop}
 use Rattle.std.specs.Of.Vec.{vec-items}
 use Rattle.std.proofs.shelf.Lists.{take-rest}
 use Rattle.words.specs.Words.{whole}
-use Rattle.words.proofs.Whole.{whole-more, whole-none}
+use Rattle.words.proofs.Whole.{whole-more}
 use Rattle.words.proofs.words_of.Needs as need
 
 pub loop-left-again : need.loop-left-again

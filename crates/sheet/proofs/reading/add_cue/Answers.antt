@@ -1,8 +1,7 @@
 use Prim.Native.Nat.{ℕ}
 use mathlib.Core.List.{map}
-use mathlib.Core.Path.{_≡_, refl, ap, sym, _∙_}
+use mathlib.Core.Path.{refl, ap, _∙_}
 use native.Mathlib.Omega.{arith}
-use lib.ListN.{length}
 use Rattle.cues.specs.CueLists.{cues-of, Pushed}
 use Rattle.cues.specs.declared.cue.Cue.{Cue}
 use Rattle.cues.specs.declared.list.CueList.{CueList}
