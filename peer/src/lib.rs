@@ -4,9 +4,16 @@
 //! from the same rules, so that a misreading on one side shows up as a
 //! difference. The `compare` program looks for such differences.
 
+pub mod day;
+pub mod dayplay;
 pub mod loading;
+pub mod policy;
 pub mod random;
 pub mod rates;
+pub mod reference;
+pub mod renderer;
+pub mod script;
 pub mod sheet;
 pub mod sheetcheck;
+pub mod trace;
 pub mod word;

@@ -39,4 +39,18 @@ impl RateTable {
     pub fn rates(&self) -> &[u32] {
         &self.rates
     }
+
+    /// The rate of a level; levels are numbered from 1.
+    pub fn rate(&self, level: usize) -> u32 {
+        self.rates[level - 1]
+    }
+
+    /// The number of the top level.
+    pub fn top_level(&self) -> usize {
+        self.rates.len()
+    }
+
+    pub fn top_rate(&self) -> u32 {
+        self.rate(self.top_level())
+    }
 }

@@ -6,7 +6,7 @@ use std::fmt;
 
 use crate::loading::loading_factor;
 use crate::rates::{RateTable, TableFault};
-use crate::word::{EDITION, Kind, Word, whole_words};
+use crate::word::{EDITION, Kind, Reader, Unexpected, Word, whole_words};
 
 pub const BUDGET_MAX: u32 = 65_535;
 pub const DEADLINE_MAX: u32 = 134_217_727;
@@ -82,6 +82,21 @@ pub struct Fault {
     pub place: usize,
 }
 
+impl Fault {
+    fn new(cause: Cause, place: usize) -> Fault {
+        Fault { cause, place }
+    }
+}
+
+impl From<Unexpected> for Fault {
+    fn from(unexpected: Unexpected) -> Fault {
+        match unexpected {
+            Unexpected::Wrong(place) => Fault::new(Cause::WrongWord, place),
+            Unexpected::Missing(place) => Fault::new(Cause::EndsEarly, place),
+        }
+    }
+}
+
 impl fmt::Display for Fault {
     fn fmt(&self, f: &mut fmt::Formatter<'_>) -> fmt::Result {
         let (layer, number) = (self.cause.layer(), self.cause.number());
@@ -95,28 +110,23 @@ impl Sheet {
         let (words, part_left) = whole_words(bytes);
         let sheet = Sheet::from_words(&words)?;
         if part_left {
-            let place = words.len();
-            let cause = Cause::EndsEarly;
-            return Err(Fault { cause, place });
+            return Err(Fault::new(Cause::EndsEarly, words.len()));
         }
         Ok(sheet)
     }
 
     /// Reads a sheet that is exactly these words.
     pub fn from_words(words: &[Word]) -> Result<Sheet, Fault> {
-        let mut reader = Reader { words, place: 0 };
-        if reader.peek()? != EDITION {
-            return Err(reader.fault(Cause::WrongWord));
+        let mut reader = Reader::new(words);
+        reader.take_edition()?;
+        let rates = read_table(&mut reader)?;
+        let cues = read_cues(&mut reader)?;
+        let end_place = reader.place();
+        if reader.take(Kind::End)? as usize != cues.len() {
+            return Err(Fault::new(Cause::WrongWord, end_place));
         }
-        reader.place += 1;
-        let rates = reader.table()?;
-        let cues = reader.cues()?;
-        if reader.expect(Kind::End)? as usize != cues.len() {
-            reader.place -= 1;
-            return Err(reader.fault(Cause::WrongWord));
-        }
-        if reader.place < words.len() {
-            return Err(reader.fault(Cause::WrongWord));
+        if !reader.rest().is_empty() {
+            return Err(Fault::new(Cause::WrongWord, reader.place()));
         }
         Ok(Sheet { rates, cues })
     }
@@ -144,10 +154,8 @@ impl Sheet {
     pub fn assess(&self) -> Assessment {
         let load = loading_factor(&self.cues);
         let (demand, length, _, _) = load;
-        let overload = (demand > length).then(|| Fault {
-            cause: Cause::Overloaded,
-            place: self.end_place(),
-        });
+        let overloaded = || Fault::new(Cause::Overloaded, self.end_place());
+        let overload = (demand > length).then(overloaded);
         Assessment { load, overload }
     }
 }
@@ -169,73 +177,36 @@ pub fn sheet_words(rates: &[u32], cues: &[Cue]) -> Vec<Word> {
     words
 }
 
-/// Words being read, and the place of the next one.
-struct Reader<'a> {
-    words: &'a [Word],
-    place: usize,
+/// Takes all rates. The table is judged only when the word after it is there,
+/// but before that word is.
+fn read_table(reader: &mut Reader) -> Result<RateTable, Fault> {
+    let place = reader.place();
+    RateTable::new(reader.take_rates()?).map_err(|fault| {
+        let cause = match fault {
+            TableFault::LevelCount(_) => Cause::LevelCount,
+            TableFault::Rate(_) => Cause::Rate,
+        };
+        Fault::new(cause, place)
+    })
 }
 
-impl Reader<'_> {
-    fn fault(&self, cause: Cause) -> Fault {
-        let place = self.place;
-        Fault { cause, place }
-    }
-
-    /// The next word, left to be read again.
-    fn peek(&self) -> Result<Word, Fault> {
-        let next = self.words.get(self.place);
-        next.copied().ok_or(self.fault(Cause::EndsEarly))
-    }
-
-    /// Takes the next word, which must be of this kind, and gives its payload.
-    fn expect(&mut self, kind: Kind) -> Result<u32, Fault> {
-        let word = self.peek()?;
-        if word.kind() != kind {
-            return Err(self.fault(Cause::WrongWord));
+/// Takes cues up to a word that is not a release, the end word as it should be.
+fn read_cues(reader: &mut Reader) -> Result<Vec<Cue>, Fault> {
+    let mut cues = Vec::new();
+    while reader.next_kind()? == Kind::Release {
+        let place = reader.place();
+        let cue = Cue {
+            release: reader.take(Kind::Release)?,
+            deadline: reader.take(Kind::Deadline)?,
+            budget: reader.take(Kind::Budget)?,
+            units: reader.take(Kind::Amount)?,
+        };
+        if let Some(cause) = wrong_with_cue(&cue, cues.len()) {
+            return Err(Fault::new(cause, place));
         }
-        self.place += 1;
-        Ok(word.payload())
+        cues.push(cue);
     }
-
-    /// Takes all rates. The table is judged only when the word after it is
-    /// there, but before that word is.
-    fn table(&mut self) -> Result<RateTable, Fault> {
-        let place = self.place;
-        let mut rates = Vec::new();
-        while self.peek()?.kind() == Kind::Rate {
-            rates.push(self.expect(Kind::Rate)?);
-        }
-        RateTable::new(rates).map_err(|fault| {
-            let cause = match fault {
-                TableFault::LevelCount(_) => Cause::LevelCount,
-                TableFault::Rate(_) => Cause::Rate,
-            };
-            Fault { cause, place }
-        })
-    }
-
-    /// Takes cues up to a word that is not a release, the end word as it should be.
-    fn cues(&mut self) -> Result<Vec<Cue>, Fault> {
-        let mut cues = Vec::new();
-        while self.peek()?.kind() == Kind::Release {
-            let place = self.place;
-            let cue = self.cue()?;
-            if let Some(cause) = wrong_with_cue(&cue, cues.len()) {
-                return Err(Fault { cause, place });
-            }
-            cues.push(cue);
-        }
-        Ok(cues)
-    }
-
-    fn cue(&mut self) -> Result<Cue, Fault> {
-        Ok(Cue {
-            release: self.expect(Kind::Release)?,
-            deadline: self.expect(Kind::Deadline)?,
-            budget: self.expect(Kind::Budget)?,
-            units: self.expect(Kind::Amount)?,
-        })
-    }
+    Ok(cues)
 }
 
 /// The cause with the lowest number against a cue that follows so many others.

@@ -15,9 +15,12 @@ use crate::inputs::Inputs;
 
 const THREADS: usize = 2;
 
+/// What the program should print for an input.
+pub type Peer = fn(&[u8]) -> String;
+
 pub struct Contest {
     pub program: PathBuf,
-    pub peer: fn(&[u8]) -> String,
+    pub peer: Peer,
     pub inputs: Inputs,
 }
 

@@ -1,13 +1,17 @@
 //! The inputs of a contest, by number: a fixed list and then random ones, each
-//! of which depends on its own number alone. Also the ways to damage words that
-//! any kind of file can suffer.
+//! of which depends on its own number alone. Also what sheets and scripts have
+//! in common: tables of rates, and the ways in which words can be damaged.
 
 use peer::random::Random;
+use peer::rates::{LEVELS_MAX, RATE_MAX};
 use peer::word::{Kind, PAYLOAD_MAX, Word, file_bytes};
+
+/// Makes one random input.
+pub type MakeRandom = fn(&mut Random) -> Vec<u8>;
 
 pub struct Inputs {
     pub fixed: Vec<Vec<u8>>,
-    pub random: fn(&mut Random) -> Vec<u8>,
+    pub random: MakeRandom,
     /// How many random inputs there are.
     pub count: usize,
     /// The number that the first random input is made from.
@@ -114,15 +118,41 @@ pub fn random_file(words: &[Word], random: &mut Random) -> Vec<u8> {
     if random.once_in(12) {
         bytes.truncate(random.below(bytes.len() as u32 + 1) as usize);
     } else if random.once_in(12) {
-        let added = random.between(1, 9) as usize;
-        bytes.extend(
-            random
-                .next_number()
-                .to_be_bytes()
-                .iter()
-                .cycle()
-                .take(added),
-        );
+        let added = random.next_number().to_be_bytes();
+        bytes.extend(&added[..random.between(1, 8) as usize]);
     }
     bytes
+}
+
+/// Lists of rates of every length around the limits, good and with each place
+/// spoilt in turn.
+pub fn spoilt_tables() -> Vec<Vec<u32>> {
+    let mut tables = Vec::new();
+    for levels in [0, 1, 2, 15, 16, 17, 18, 40] {
+        let rising: Vec<u32> = (0..levels).map(|level| 3 + 2 * level).collect();
+        for place in 0..rising.len() {
+            for rate in [0, 2 * place as u32 + 1, RATE_MAX, RATE_MAX + 1, PAYLOAD_MAX] {
+                let mut rates = rising.clone();
+                rates[place] = rate;
+                tables.push(rates);
+            }
+        }
+        tables.push(rising);
+    }
+    tables
+}
+
+/// Mostly a table; once in a while with a level too many or two that are equal.
+pub fn random_rates(random: &mut Random) -> Vec<u32> {
+    let levels = random.between(1, LEVELS_MAX as u32);
+    let most = if random.once_in(3) { RATE_MAX } else { 60 };
+    let mut rates: Vec<u32> = (0..levels).map(|_| random.between(1, most)).collect();
+    rates.sort_unstable();
+    if !random.once_in(40) {
+        rates.dedup();
+    }
+    if random.once_in(60) {
+        rates = (0..random.between(15, 18)).map(|level| level + 1).collect();
+    }
+    rates
 }

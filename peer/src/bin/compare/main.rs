@@ -3,9 +3,11 @@
 //!
 //! `compare PROGRAM [COUNT [START]]` tries a sheet checker: first a fixed list
 //! of inputs, then COUNT random ones, the first made from the number START.
+//! `compare dayplay PROGRAM [COUNT [START]]` tries a script player likewise.
 
 mod contest;
 mod inputs;
+mod scripts;
 mod sheets;
 
 use std::env;
@@ -15,7 +17,7 @@ use std::process::ExitCode;
 use contest::Contest;
 use inputs::Inputs;
 
-const USAGE: &str = "usage: compare PROGRAM [COUNT [START]]";
+const USAGE: &str = "usage: compare [dayplay] PROGRAM [COUNT [START]]";
 const DEFAULT_COUNT: usize = 20_000;
 const DEFAULT_START: u64 = 1;
 
@@ -39,24 +41,29 @@ fn main() -> ExitCode {
 
 /// What the arguments ask for, if they make sense.
 fn contest_from(arguments: &[String]) -> Option<Contest> {
-    let (program, numbers) = arguments.split_first()?;
-    let count = match numbers.first() {
-        Some(text) => text.parse().ok()?,
-        None => DEFAULT_COUNT,
-    };
-    let start = match numbers.get(1) {
-        Some(text) => text.parse().ok()?,
-        None => DEFAULT_START,
-    };
+    let scripted = arguments.first().is_some_and(|first| first == "dayplay");
+    let (program, numbers) = arguments[usize::from(scripted)..].split_first()?;
+    let count = numbers
+        .first()
+        .map_or(Ok(DEFAULT_COUNT), |text| text.parse());
+    let start = numbers
+        .get(1)
+        .map_or(Ok(DEFAULT_START), |text| text.parse());
+    let (count, start) = (count.ok()?, start.ok()?);
     if numbers.len() > 2 {
         return None;
     }
+    let (fixed, random, peer): (_, inputs::MakeRandom, contest::Peer) = if scripted {
+        (scripts::fixed(), scripts::random, peer::dayplay::report)
+    } else {
+        (sheets::fixed(), sheets::random, peer::sheetcheck::report)
+    };
     Some(Contest {
         program: PathBuf::from(program),
-        peer: peer::sheetcheck::report,
+        peer,
         inputs: Inputs {
-            fixed: sheets::fixed(),
-            random: sheets::random,
+            fixed,
+            random,
             count,
             start,
         },

@@ -3,11 +3,13 @@
 //! damages.
 
 use peer::random::Random;
-use peer::rates::{LEVELS_MAX, RATE_MAX};
+use peer::rates::RATE_MAX;
 use peer::sheet::{BUDGET_MAX, CUES_MAX, Cue, DEADLINE_MAX, sheet_words};
 use peer::word::{EDITION, INPUT_LIMIT, Kind, PAYLOAD_MAX, Word, file_bytes};
 
-use crate::inputs::{NOTABLE_PAYLOADS, damage, every_damage, random_file};
+use crate::inputs::{
+    NOTABLE_PAYLOADS, damage, every_damage, random_file, random_rates, spoilt_tables,
+};
 
 const RATES: [u32; 4] = [7, 10, 12, 14];
 
@@ -62,24 +64,14 @@ fn small_sheets() -> [Vec<Word>; 6] {
     ]
 }
 
-/// Tables of every size around the limits, with each place spoilt in turn, and
-/// with each kind of word after them.
+/// Tables around the limits, before a cue and before words of all kinds.
 fn tables() -> Vec<Vec<u8>> {
     let mut files = Vec::new();
-    for levels in [0, 1, 2, 15, 16, 17, 18, 40] {
-        let rising: Vec<u32> = (0..levels).map(|level| 3 + 2 * level).collect();
-        for kind in Kind::ALL {
-            let mut words = sheet_words(&rising, &[]);
-            *words.last_mut().expect("a sheet has words") = Word::new(kind, 0);
-            files.push(file_bytes(&words));
-        }
-        for place in 0..rising.len() {
-            for rate in [0, 2 * place as u32 + 1, RATE_MAX, RATE_MAX + 1, PAYLOAD_MAX] {
-                let mut rates = rising.clone();
-                rates[place] = rate;
-                files.push(file_bytes(&sheet_words(&rates, &[cue(0, 1, 1, 0)])));
-            }
-        }
+    for (rates, kind) in spoilt_tables().iter().zip(Kind::ALL.into_iter().cycle()) {
+        files.push(file_bytes(&sheet_words(rates, &[cue(0, 1, 1, 0)])));
+        let mut words = sheet_words(rates, &[]);
+        *words.last_mut().expect("a sheet has words") = Word::new(kind, 0);
+        files.push(file_bytes(&words));
     }
     files
 }
@@ -226,21 +218,6 @@ fn random_words(random: &mut Random) -> Vec<Word> {
     std::iter::once(EDITION)
         .chain((0..length).map(random_word))
         .collect()
-}
-
-/// Mostly a table; once in a while with a level too many or two that are equal.
-fn random_rates(random: &mut Random) -> Vec<u32> {
-    let levels = random.between(1, LEVELS_MAX as u32);
-    let most = if random.once_in(3) { RATE_MAX } else { 60 };
-    let mut rates: Vec<u32> = (0..levels).map(|_| random.between(1, most)).collect();
-    rates.sort_unstable();
-    if !random.once_in(40) {
-        rates.dedup();
-    }
-    if random.once_in(60) {
-        rates = (0..random.between(15, 18)).map(|level| level + 1).collect();
-    }
-    rates
 }
 
 /// Cues that keep the limits, at loads around the one that is just admitted.
