@@ -1,7 +1,9 @@
 -- What a tick decides before the chosen job runs, and what the policy was asked for it.
 use Prim.Native.Nat.{ℕ, _-_, _≤_}
+use mathlib.Core.Bool.{cond, _||_}
 use mathlib.Core.List.{List}
 use mathlib.Core.Path.{_≡_}
+use lib.Dec.{ltb}
 use lib.ListN.{length}
 use Rattle.std.specs.Options.{isSome}
 use Rattle.std.specs.declared.option.Option.{Option}
@@ -39,6 +41,12 @@ starting-bound day m =
     (day .handed-deadline)
     (m .budget)
     (m .deadline)
+
+-- From where on a job that starts, and sets none aside, has its budget: the handed bound, unless that was handed by a job
+-- due later or has passed.
+abbrev pub free-from : DayState → Job → ℕ
+free-from day m =
+    cond (ltb (m .deadline) (day .handed-deadline) || ltb (day .handed-bound) (day .clock)) (day .clock) (day .handed-bound)
 
 -- A policy is asked for a level at a switch alone: for what remains of the job, up to its bound. Otherwise it stays as it was.
 abbrev pub Asks :

@@ -9,7 +9,7 @@ ghost use Rattle.std.specs.declared.option.Option.the-variants.{None, Some};
 ghost use Rattle.rates.specs.Policy.{Sufficient};
 ghost use Rattle.rates.specs.Table.{rate-of, top-rate};
 ghost use Rattle.scheduler.specs.declared.job.Stage.the-variants.{Running};
-ghost use Rattle.scheduler.specs.Chooses.{Asks, Chooses, starting-bound};
+ghost use Rattle.scheduler.specs.Chooses.{Asks, Chooses, free-from, starting-bound};
 ghost use Rattle.scheduler.specs.Day.{bound-of, first-job, runner, runs};
 ghost use Rattle.scheduler.specs.Good.{Good-job};
 ghost use Rattle.scheduler.specs.Model.{model};
@@ -85,8 +85,7 @@ impl Day {
         }
     }
 
-    /// The bound of a job that starts: its budget from the clock on where it sets another aside. Otherwise from the handed
-    /// bound on, unless that was handed by a job due later or has passed.
+    /// The bound of a job that starts: where it sets another aside, its budget counts from the clock on.
     fn starting_bound(&self, job: &Job) -> u32
         requires { ⌜ now job .budget ≤ 65535 ⌝ }
         ensures { λ r. ⌜ r ≡ starting-bound (model (now (self .entry))) (now (job .entry)) ⌝ }
@@ -94,12 +93,18 @@ impl Day {
         if self.running.is_some() {
             return self.clock + job.budget;
         }
-        let handed_by_later = job.deadline < self.handed_deadline;
-        let passed = self.handed_bound < self.clock;
-        if handed_by_later || passed {
-            self.clock + job.budget
+        self.free_from(job) + job.budget
+    }
+
+    /// From where on a job that starts by itself has its budget: the handed bound, unless that was handed by a job due
+    /// later or has passed.
+    fn free_from(&self, job: &Job) -> u32
+        ensures { λ r. ⌜ r ≡ free-from (model (now (self .entry))) (now (job .entry)) ⌝ }
+    {
+        if job.deadline < self.handed_deadline || self.handed_bound < self.clock {
+            self.clock
         } else {
-            self.handed_bound + job.budget
+            self.handed_bound
         }
     }
 

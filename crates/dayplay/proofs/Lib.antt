@@ -1,0 +1,4 @@
+mod PartSteps
+mod RateSteps
+mod CallSteps
+pub mod Rehearsals

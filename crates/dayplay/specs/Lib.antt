@@ -1,0 +1,6 @@
+pub mod Reading
+pub mod Parts
+pub mod Scripts
+pub mod Lines
+pub mod Preparing
+pub mod Rehearsing
