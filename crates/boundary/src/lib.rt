@@ -3,6 +3,8 @@
 ghost use Prim.Native.Nat.{_≤_};
 ghost use mathlib.Core.Path.{_≡_};
 ghost use Rattle.boundary.specs.Rounds.{Found, Told};
+mod ticks;
+
 use sheet::read::ReadSheet;
 use std::alloc::Global;
 
@@ -34,3 +36,4 @@ pub extern "C" fn patchbasalt_load(heap: Global, sheet: &[u8], rounds: u32) -> u
         None => u64::MAX,
     }
 }
+pub use ticks::patchbasalt_ticks;

@@ -30,10 +30,10 @@ one-rate-more words old new left some rate added so-far =
     let rates = old ++ (payload (getD left 0 0) ∷ []) in
     let longer : 1 + length old + 1 ≡ 1 + length rates = omega (arith, length-push old (payload (getD left 0 0))) in
     let turn : RatesSoFar words rates (drop 1 left) =
-        record {
-          counted = omega (arith, so-far .counted, length-drop 1 left);
-          read = so-far .read ∙ rate-read (1 + length old) old left some rate ∙ rw longer;
-        } in
+    record {
+      counted = omega (arith, so-far .counted, length-drop 1 left);
+      read = so-far .read ∙ rate-read (1 + length old) old left some rate ∙ rw longer;
+    } in
     subst (λ rest. RatesSoFar words new rest) (sym (take-rest left 1)) (subst (λ rs. RatesSoFar words rs (drop 1 left)) (sym added) turn)
 
 pub all-rates-read : (words rates left : List ℕ) → (1 ≤ length left → is Rate (getD left 0 0) ≡ false) → RatesSoFar words rates left → Rates words rates left

@@ -3,4 +3,5 @@ pub mod Parts
 pub mod Scripts
 pub mod Lines
 pub mod Preparing
+pub mod ScriptWords
 pub mod Rehearsing

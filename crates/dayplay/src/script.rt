@@ -1,15 +1,18 @@
-//! A script: the rates of a table, the calls of a day and the answers of a renderer, as words.
-ghost use Prim.Native.Nat.{ℕ, _+_, _≤_, _<_, _^_};
+//! A script: the rates of a table, the calls of a day and the answers of a renderer, as words. Edition 1 comes first,
+//! then a word for each rate. A deadline with its budget is a release, and a word of ticks stands for so many of them.
+//! The end word counts the words of the answer tape, which follow it and are the last.
+ghost use Prim.Native.Nat.{_+_, _≤_, _<_, _^_};
+ghost use lib.ListN.{length, replicate};
 ghost use mathlib.Core.List.{_++_};
+ghost use mathlib.Core.Path.{_≡_};
 ghost use Rattle.std.specs.Of.Vec.{vec-items};
 ghost use Rattle.std.specs.Vec.{made};
-ghost use Rattle.scheduler.specs.declared.call.Call.the-variants.{Tick};
-ghost use mathlib.Core.Path.{_≡_};
-ghost use lib.ListN.{length, replicate};
 ghost use Rattle.std.specs.declared.result.Result.the-variants.{Ok, Err};
-ghost use Rattle.dayplay.specs.declared.script.ScriptError.the-variants.{WrongWord, NoMemory};
-ghost use Rattle.dayplay.specs.Scripts.{ReadAs, ReadBytesAs};
+ghost use Rattle.scheduler.specs.declared.call.Call.the-variants.{Tick};
+ghost use Rattle.dayplay.specs.declared.script.ScriptError.the-variants.{NoMemory};
 ghost use Rattle.dayplay.specs.Parts.{After, WrongAt, Tape, Calls, Rates};
+ghost use Rattle.dayplay.specs.Scripts.{ReadAs, ReadBytesAs};
+ghost use Rattle.dayplay.specs.ScriptWords.{WrittenBytes};
 use scheduler::call::Call;
 use std::alloc::AllocError;
 use std::alloc::Global;
@@ -82,8 +85,12 @@ fn next_part(left: &[u32], place: usize, ticks: u32) -> Result<(Part, &[u32]), S
             }
             Ok((Part::Ticks(count), rest))
         }
-        [deadline, ..] if !is_kind(*deadline, Kind::Deadline) => Err(ScriptError::WrongWord { place }),
-        [_, budget, ..] if !is_kind(*budget, Kind::Budget) => Err(ScriptError::WrongWord { place: place + 1 }),
+        [deadline, ..] if !is_kind(*deadline, Kind::Deadline) => Err(ScriptError::WrongWord {
+            place,
+        }),
+        [_, budget, ..] if !is_kind(*budget, Kind::Budget) => Err(ScriptError::WrongWord {
+            place: place + 1,
+        }),
         [deadline, budget, rest @ ..] => {
             let deadline = payload_of(*deadline);
             let budget = payload_of(*budget);
@@ -106,12 +113,7 @@ fn push_ticks(calls: &mut Vec<Call>, count: u32) -> Result<(), ScriptError>
 }
 
 /// The tape, whose first word stands at `place`, exactly as long as the end word counts.
-fn read_tape(
-    heap: Global,
-    words: &[u32],
-    count: u32,
-    place: usize,
-) -> Result<Vec<u32>, ScriptError>
+fn read_tape(heap: Global, words: &[u32], count: u32, place: usize) -> Result<Vec<u32>, ScriptError>
     requires { ⌜ place + length (now words) < 2 ^ 64 ⌝ }
     ensures { λ r. ⌜ Tape place count (now (words .entry)) r ⌝ }
 {
@@ -185,7 +187,8 @@ fn read_words(heap: Global, words: &[u32]) -> Result<Script, ScriptError>
 
 /// Reads the bytes of a script, four to a word. A last word that is cut short is missing.
 pub fn read_script(heap: Global, bytes: &[u8]) -> Result<Script, ScriptError>
-    ensures { λ r. ⌜ ReadBytesAs (now (bytes .entry)) r ⌝ }
+    ensures read { λ r. ⌜ ReadBytesAs (now (bytes .entry)) r ⌝ }
+    ensures written { λ r. ⌜ WrittenBytes (now (bytes .entry)) r ⌝ }
 {
     let words = words_of(heap, bytes)?;
     let script = read_words(heap, words.as_slice())?;

@@ -114,7 +114,7 @@ fn a_rehearsal_is_told_line_by_line(rt: LibcRuntime) -> Result<(), Fail> {
         Reply::Released(3),
         Reply::Ticked(Ticked::Ran(ran)),
         Reply::Ticked(Ticked::Idle),
-        Reply::Refused(Refusal::Deadline { deadline: 1 })
+        Reply::Refused(Refusal::Deadline { deadline: 1 }),
     ]?;
     let rehearsal = Rehearsal {
         replies,

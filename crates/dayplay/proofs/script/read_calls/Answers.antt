@@ -31,9 +31,9 @@ returns-in-Break-part c =
     let calls = vec-items (at .calls) in
     let p = err-from-errBy (c .from-residual .result) (c .from-residual .ensures .1) in
     λ rates. rw (p .1, p .2)
-        (wrong-further-on (calls-from (c .args .first) rates [] 0 None (c .args .words .now)) (calls-from (at .place) rates calls (at .ticks) None (at .left .now)) (c .in-Break-part .field-0 .0)
-        (at .inv .read rates)
-        (c .in-Break-part .ensures tt rates calls))
+    (wrong-further-on (calls-from (c .args .first) rates [] 0 None (c .args .words .now)) (calls-from (at .place) rates calls (at .ticks) None (at .left .now)) (c .in-Break-part .field-0 .0)
+    (at .inv .read rates)
+    (c .in-Break-part .ensures tt rates calls))
 
 pub returns-in-Break-tape : need.returns-in-Break-tape
 returns-in-Break-tape c =
@@ -43,6 +43,6 @@ returns-in-Break-tape c =
     let after = subst (λ part. After (at .place) (at .ticks) (at .left .now) part rest) (c .in-End .is) (c .in-Continue-part .ensures tt) in
     let p = err-from-errBy (c .from-residual-in-Break-tape .result) (c .from-residual-in-Break-tape .ensures .1) in
     λ rates. rw (p .1, p .2)
-        (wrong-further-on (calls-from (c .args .first) rates [] 0 None (c .args .words .now)) (tape-from (at .place + 1) (c .in-End .count) rates calls rest) (c .in-Break-tape .field-0 .0)
-        (at .inv .read rates ∙ after .1 rates calls)
-        (c .in-Break-tape .ensures tt rates calls))
+    (wrong-further-on (calls-from (c .args .first) rates [] 0 None (c .args .words .now)) (tape-from (at .place + 1) (c .in-End .count) rates calls rest) (c .in-Break-tape .field-0 .0)
+    (at .inv .read rates ∙ after .1 rates calls)
+    (c .in-Break-tape .ensures tt rates calls))
