@@ -33,3 +33,4 @@ pub mod DayLaw
 pub mod BusyTicks
 pub mod Examples
 pub mod Playing
+pub mod ClosingRoom

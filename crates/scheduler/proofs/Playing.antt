@@ -14,7 +14,10 @@ use Rattle.scheduler.specs.Day.{DayState, opened}
 use Rattle.scheduler.specs.Marks.{opening-marks}
 use Rattle.scheduler.specs.Law.{Exchange, Safe}
 use Rattle.scheduler.specs.Played.{Recorded, Right, next, All-right, played, heard-reply, heard-all}
-use Rattle.scheduler.specs.Exchanges.{exchanges, opened-on, Answered, So-far, Plays}
+use Rattle.scheduler.specs.Exchanges.{exchanges, opened-on, Closable, Answered, So-far, Plays}
+use Rattle.scheduler.specs.Outcomes.{opening-refusal}
+use Rattle.std.specs.declared.option.Option.the-variants.{None}
+use Rattle.scheduler.proofs.ClosingRoom.{closable-after, closable-opened}
 use Rattle.scheduler.proofs.DayLaw.{safe}
 use Rattle.scheduler.proofs.BusyTicks.{requests-are-busy-ticks}
 
@@ -59,12 +62,13 @@ exchanges-more calls replies place call reply within answered =
 pub played-all :
     (rates : List ℕ) (calls : List Call) (replies : List Reply) (page page₁ page′ : Page) (h h′ : Heard) (start day : DayState) →
     Lawful rates →
+    opening-refusal page rates ≡ None →
     start ≡ opened rates →
     page₁ ≡ markedAll page (opening-marks rates) →
     length replies ≡ length calls →
     So-far (record { day = start; page = page₁ }) (record { day = day; page = page′ }) h h′ (exchanges calls replies) →
     Plays rates calls replies page page′ h h′ day
-played-all rates calls replies page page₁ page′ h h′ start day lawful fresh recorded answered far =
+played-all rates calls replies page page₁ page′ h h′ start day lawful granted fresh recorded answered far =
     let xs = exchanges calls replies in
     let begun : So-far (record { day = opened rates; page = page₁ }) (record { day = day; page = page′ }) h h′ xs =
       subst (λ d. So-far (record { day = d; page = page₁ }) (record { day = day; page = page′ }) h h′ xs) fresh far in
@@ -78,6 +82,11 @@ played-all rates calls replies page page₁ page′ h h′ start day lawful fres
           (Safe xs)
           (sym (ap (λ r. r .day .clock) (whole .after)))
           (safe rates (markedAll page (opening-marks rates)) xs lawful (whole .right));
+      closable =
+        subst
+          Closable
+          (sym (ap (λ r. r .page) (whole .after)))
+          (closable-after (opened-on rates page) xs (whole .right) (closable-opened page rates granted));
       requests = λ counted. ap (λ g. g .requests) (whole .asked) ∙ requests-are-busy-ticks h xs counted;
     }
 

@@ -38,5 +38,5 @@ returns g c =
     played-all
       (rates-of (c .args .table)) calls (vec-items (c .loop-call .replies))
       _ _ _ _ _ _ (model (c .loop-call .day))
-      (table-is-lawful (c .args .table)) (opens .fresh) (opens .recorded) (c .loop-call .inv .1 ∙ omega arith)
+      (table-is-lawful (c .args .table)) (opens .granted) (opens .fresh) (opens .recorded) (c .loop-call .inv .1 ∙ omega arith)
       (so-far-as (ap (λ front. exchanges front (vec-items (c .loop-call .replies))) all) (c .loop-call .inv .2))
