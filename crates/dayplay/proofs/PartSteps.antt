@@ -1,10 +1,10 @@
 -- One part of the calls is read, or the words are wrong there.
-use Prim.Native.Nat.{ℕ, _+_, _≤_, _<_}
+use Prim.Native.Nat.{ℕ, _+_, _≤_}
 use mathlib.Core.Bool.{true, false}
 use mathlib.Core.List.{List, [], _∷_, _++_}
-use mathlib.Core.Path.{_≡_, refl, ap, _∙_}
+use mathlib.Core.Path.{_≡_, ap, _∙_}
 use native.Mathlib.Omega.{arith}
-use borrow.Author.Tests.{le-leb, lt-leb}
+use borrow.Author.Tests.{le-leb}
 use lib.Dec.{leb}
 use lib.ListN.{length, getD, drop, replicate}
 use Rattle.std.specs.declared.option.Option.the-variants.{Some, None}
@@ -23,14 +23,6 @@ module _ (place : ℕ) (rates : List ℕ) (before : List Call) (ticks : ℕ) whe
   pub ticks-read : (ws : List ℕ) → 1 ≤ length ws → is End (getD ws 0 0) ≡ false → is Spent (getD ws 0 0) ≡ true → ticks + payload (getD ws 0 0) ≤ 1000000 → calls-from place rates before ticks None ws ≡ calls-from (place + 1) rates (before ++ replicate (payload (getD ws 0 0)) Tick) (ticks + payload (getD ws 0 0)) None (drop 1 ws)
   ticks-read [] h end spent few = absurd (omega arith)
   ticks-read (w ∷ ws) h end spent few = let test : leb (ticks + payload w) 1000000 ≡ true = le-leb _ _ few in rw (end, spent, test)
-
-  pub too-many-ticks : (ws : List ℕ) → 1 ≤ length ws → is End (getD ws 0 0) ≡ false → is Spent (getD ws 0 0) ≡ true → 1000000 < ticks + payload (getD ws 0 0) → calls-from place rates before ticks None ws ≡ Err place
-  too-many-ticks [] h end spent many = absurd (omega arith)
-  too-many-ticks (w ∷ ws) h end spent many = let test : leb (ticks + payload w) 1000000 ≡ false = lt-leb _ _ many in rw (end, spent, test)
-
-  pub no-part : (ws : List ℕ) → 1 ≤ length ws → is End (getD ws 0 0) ≡ false → is Spent (getD ws 0 0) ≡ false → is Deadline (getD ws 0 0) ≡ false → calls-from place rates before ticks None ws ≡ Err place
-  no-part [] h end spent due = absurd (omega arith)
-  no-part (w ∷ ws) h end spent due = rw (end, spent, due)
 
   -- A deadline waits for its budget.
   deadline-read : (w : ℕ) (ws : List ℕ) → is End w ≡ false → is Spent w ≡ false → is Deadline w ≡ true → calls-from place rates before ticks None (w ∷ ws) ≡ calls-from (place + 1) rates before ticks (Some (payload w)) ws

@@ -1,6 +1,6 @@
 -- Words that are read as a script are the words of that script.
-use Prim.Native.Nat.{ℕ, _+_, _≤_, _<_, _^_, _%_, min}
-use mathlib.Core.Bool.{true, false, cond}
+use Prim.Native.Nat.{ℕ, _+_, _≤_, _<_, _^_, min}
+use mathlib.Core.Bool.{true}
 use mathlib.Core.List.{List, [], _∷_, _++_, map, append-assoc}
 use mathlib.Core.Path.{_≡_, refl, sym, ap, subst, _∙_}
 use native.Mathlib.Nat.{mod-lt}

@@ -1,8 +1,7 @@
 -- What the answer of reading says of the words as a script.
 use Prim.Native.Nat.{ℕ, _%_}
-use mathlib.Core.Bool.{Bool, true, false, cond}
 use mathlib.Core.List.{List}
-use mathlib.Core.Path.{_≡_, refl, sym, ap, _∙_}
+use mathlib.Core.Path.{_≡_, sym, ap, _∙_}
 use lib.Dec.{eqb}
 use lib.ListN.{length}
 use Rattle.std.proofs.shelf.Tests.{cond-both, cond-true, eqb-true, eq-eqb}
@@ -14,7 +13,7 @@ use Rattle.dayplay.specs.declared.script.ScriptError.{ScriptError}
 use Rattle.dayplay.specs.declared.script.ScriptError.the-variants.{WrongWord, NoMemory}
 use Rattle.dayplay.specs.Reading.{Contents, Reading, reading}
 use Rattle.dayplay.specs.Scripts.{contents, left-over, ReadBytesAs}
-use Rattle.dayplay.specs.ScriptWords.{WordsOf, WrittenBytes}
+use Rattle.dayplay.specs.ScriptWords.{WrittenBytes}
 use Rattle.dayplay.proofs.ReadBack.{wrong-is-no-script, written-where-read}
 use Rattle.dayplay.proofs.WriteBack.{read-where-written}
 

@@ -8,7 +8,7 @@ use lib.ListN.{length, replicate}
 use Rattle.std.proofs.shelf.Lists.{append-nil}
 use Rattle.std.proofs.shelf.Tests.{cond-true, cond-false, eq-eqb, le-leb}
 use Rattle.std.specs.shelf.Lists.{All}
-use Rattle.std.specs.declared.option.Option.the-variants.{Some, None}
+use Rattle.std.specs.declared.option.Option.the-variants.{None}
 use Rattle.std.specs.declared.result.Result.the-variants.{Ok}
 use Rattle.words.specs.declared.Kind.the-variants.{Deadline, Budget, Spent, Rate, End}
 use Rattle.words.specs.Words.{is, payload, word}
@@ -16,7 +16,7 @@ use Rattle.words.proofs.WordParts.{is-word, payload-word}
 use Rattle.scheduler.specs.declared.call.Call.{Call}
 use Rattle.scheduler.specs.declared.call.Call.the-variants.{Release, Tick}
 use Rattle.dayplay.specs.Reading.{Contents, tape-from, calls-from, rates-from, reading}
-use Rattle.dayplay.specs.ScriptWords.{Item, a-release, some-ticks, item-words, item-calls, ticks-in, FitsWords, words-behind-rates, WordsOf}
+use Rattle.dayplay.specs.ScriptWords.{Item, a-release, some-ticks, item-calls, ticks-in, FitsWords, words-behind-rates, WordsOf}
 
 tape-back : (place : ℕ) (rates : List ℕ) (calls : List Call) (tape : List ℕ) → tape-from place (length tape) rates calls tape ≡ Ok (record { rates = rates; calls = calls; tape = tape })
 tape-back place rates calls tape = rw (eq-eqb (length tape) (length tape) refl)

@@ -10,7 +10,6 @@ use Rattle.scheduler.specs.declared.call.Reply.{Reply}
 use Rattle.scheduler.specs.declared.call.Reply.the-variants.{Released, Ticked as a-tick, Refused}
 use Rattle.scheduler.specs.declared.ticked.Ticked.{Ticked}
 use Rattle.scheduler.specs.declared.ticked.Ticked.the-variants.{Idle, Ran as a-run}
-use Rattle.scheduler.specs.declared.ticked.Ran.{Ran}
 use Rattle.scheduler.specs.declared.ticked.Switch.{Switch}
 use Rattle.scheduler.specs.declared.ticked.Turn.{Turn}
 use Rattle.scheduler.specs.declared.ticked.Turn.the-variants.{Start, Resume}

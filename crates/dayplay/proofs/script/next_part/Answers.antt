@@ -1,12 +1,10 @@
-use Prim.Native.Nat.{ℕ, _+_, _-_, _≤_}
-use mathlib.Core.List.{List}
-use mathlib.Core.Path.{_≡_, sym, subst}
+use Prim.Native.Nat.{_+_, _≤_}
+use mathlib.Core.Path.{sym, subst}
 use native.Mathlib.Omega.{arith}
 use borrow.Author.Needs.{needs}
-use lib.ListN.{length, drop, getD, length-drop}
+use lib.ListN.{length, getD, length-drop}
 use Rattle.std.proofs.shelf.Lists.{take-rest}
 use Rattle.words.specs.Words.{payload}
-use Rattle.dayplay.specs.declared.script.Part.{Part}
 use Rattle.dayplay.specs.declared.script.Part.the-variants.{Release, Ticks, End}
 use Rattle.dayplay.specs.Parts.{After}
 use Rattle.dayplay.proofs.PartSteps.{end-read, ticks-read, no-budget, release-read, cut-short}

@@ -1,6 +1,5 @@
 use mathlib.Core.List.{_++_, append-assoc}
 use mathlib.Core.Path.{ap, sym, _∙_}
-use borrow.Author.Needs.{needs}
 use lib.ListN.{replicate}
 use Rattle.std.proofs.shelf.Lists.{append-nil, replicate-more}
 use Rattle.std.specs.Of.Vec.{vec-items}
