@@ -8,6 +8,7 @@ pub mod day;
 pub mod dayplay;
 pub mod loading;
 pub mod policy;
+pub mod program;
 pub mod random;
 pub mod rates;
 pub mod reference;
