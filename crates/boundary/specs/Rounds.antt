@@ -1,6 +1,6 @@
 -- What is told across the boundary.
 use Rattle.std.specs.Prelude.{◌≡◌, ℕ, ◌≤◌, ◌⊎◌, List, Some, None, Ok, Option}
-use Rattle.loading.specs.Loading.{Loading}
+use Rattle.cues.specs.Loading.{Loading}
 use Rattle.sheet.specs.declared.read.ReadSheet.{ReadSheet}
 use Rattle.sheet.specs.Sheets.{contents, jobs, reading_bytes}
 

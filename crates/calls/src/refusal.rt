@@ -1,15 +1,14 @@
 //! Why a call of the day is refused. Each cause has a number and a value.
 ghost use Rattle.std.specs.Prelude.{◌≡◌};
 ghost use Rattle.calls.specs.Refusals.{number_of, value_of};
-ghost use Rattle.calls.specs.declared.refusal.Refusal.TheVariants.{Job};
-
-use cues::refusal::CueRefusal;
 
 /// Why a call is refused.
 #[derive(Clone, Copy, PartialEq, Eq, Debug)]
 pub enum Refusal {
-    /// The budget or the deadline of the job is out of bounds; the deadline has to be after the clock.
-    Job(CueRefusal),
+    /// The budget is outside 1 to 65,535.
+    Budget { budget: u32 },
+    /// The deadline is not after the clock, or over 134,217,727.
+    Deadline { deadline: u32 },
     /// As many jobs are pending as may be.
     Pending { most: u32 },
     /// The accepted budgets would pass 134,217,727: holds their sum.
@@ -26,7 +25,8 @@ impl Refusal {
         ensures { result ≡ number_of self.now }
     {
         match self {
-            Refusal::Job(refusal) => refusal.number(),
+            Refusal::Budget { .. } => 3,
+            Refusal::Deadline { .. } => 4,
             Refusal::Pending { .. } => 5,
             Refusal::Budgets { .. } => 6,
             Refusal::Clock { .. } => 7,
@@ -39,19 +39,12 @@ impl Refusal {
         ensures { result ≡ value_of self.now }
     {
         match self {
-            Refusal::Job(refusal) => refusal.value() as usize,
+            Refusal::Budget { budget } => *budget as usize,
+            Refusal::Deadline { deadline } => *deadline as usize,
             Refusal::Pending { most } => *most as usize,
             Refusal::Budgets { sum } => *sum as usize,
             Refusal::Clock { clock } => *clock as usize,
             Refusal::Room { free } => *free,
         }
-    }
-}
-
-impl From<CueRefusal> for Refusal {
-    ghost from_gives = { λ refusal r. r ≡ Job refusal };
-
-    fn from(refusal: CueRefusal) -> Refusal {
-        Self::Job(refusal)
     }
 }

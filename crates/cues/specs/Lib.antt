@@ -3,3 +3,7 @@ pub mod Refusals
 pub mod Cues
 pub mod CueLists
 pub mod Orders
+pub mod Candidates
+pub mod Loading
+pub mod CandidateOrder
+pub mod Ratio

@@ -28,7 +28,7 @@ abbrev pub fault_number : SheetFault → ℕ
 fault_number (sheet_word place fault) = word_number fault
 fault_number (BadCue place fault) = cue_number fault
 fault_number (BadTable refusal) = number_of refusal
-fault_number (TooManyCues place most) = 11
+fault_number (TooManyCues place) = 11
 fault_number (Overloaded demand length start end place) = 13
 
 -- The layer of a fault is the one where it came about.
@@ -40,7 +40,7 @@ abbrev pub fault_layer : SheetFault → Layer
 fault_layer (sheet_word place fault) = Word
 fault_layer (BadCue place fault) = cue_layer fault
 fault_layer (BadTable refusal) = Sheet
-fault_layer (TooManyCues place most) = Sheet
+fault_layer (TooManyCues place) = Sheet
 fault_layer (Overloaded demand length start end place) = Sheet
 
 -- The place of a fault, a word's place from 0: a table's and a cue's number stand at its first word.
@@ -52,7 +52,7 @@ abbrev pub fault_place : SheetFault → ℕ
 fault_place (sheet_word place fault) = place
 fault_place (BadCue place fault) = cue_place place fault
 fault_place (BadTable refusal) = 1
-fault_place (TooManyCues place most) = place
+fault_place (TooManyCues place) = place
 fault_place (Overloaded demand length start end place) = place
 
 -- What comes back with a cue's fault: the place of a wrong word or the count of words that end early, or the value of the
@@ -66,7 +66,7 @@ abbrev pub fault_returns : SheetFault → Returned
 fault_returns (sheet_word place fault) = Value place
 fault_returns (BadCue place fault) = Value (cue_value fault)
 fault_returns (BadTable refusal) = Value (value_of refusal)
-fault_returns (TooManyCues place most) = Value most
+fault_returns (TooManyCues place) = Value 1024
 fault_returns (Overloaded demand length start end place) = Interval demand length start end
 
 -- The name of a layer.

@@ -10,7 +10,7 @@ mod report;
 
 use cues::refusal::CueRefusal;
 use rates::TableRefusal;
-use std::alloc::AllocError;
+use std::alloc::{AllocError, AllocFailed};
 use words::fault::WordFault;
 
 /// A cue that cannot be read.
@@ -40,7 +40,6 @@ pub enum SheetFault {
     /// The cue that begins at this place is one more than a sheet may have.
     TooManyCues {
         place: usize,
-        most: u32,
     },
     /// The interval from `start` to `end` demands more ticks than it has; `place` is that of the end word.
     Overloaded {
@@ -136,6 +135,14 @@ impl From<AllocError> for ReadError {
     ghost from_gives = { λ _ r. r ≡ NoMemory };
 
     fn from(_e: AllocError) -> ReadError {
+        ReadError::NoMemory
+    }
+}
+
+impl<T: Drop> From<AllocFailed<T>> for ReadError {
+    ghost from_gives = { λ _ r. r ≡ NoMemory };
+
+    fn from(_e: AllocFailed<T>) -> ReadError {
         ReadError::NoMemory
     }
 }

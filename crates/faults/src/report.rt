@@ -3,6 +3,7 @@ ghost use Rattle.std.specs.Prelude.{◌≡◌, Some};
 ghost use Rattle.faults.specs.Fault.{cue_number, cue_layer, cue_place, cue_value, fault_number, fault_layer, fault_place, fault_returns, fault_line, layer_name};
 
 use crate::{CueFault, Layer, Returned, SheetFault};
+use cues::list::CueList;
 use std::fmt;
 
 impl CueFault {
@@ -82,7 +83,7 @@ impl SheetFault {
             SheetFault::BadWord { place, .. } => *place,
             SheetFault::BadCue { place, fault } => fault.place(*place),
             SheetFault::BadTable(_) => 1,
-            SheetFault::TooManyCues { place, .. } => *place,
+            SheetFault::TooManyCues { place } => *place,
             SheetFault::Overloaded { place, .. } => *place,
         }
     }
@@ -95,7 +96,7 @@ impl SheetFault {
             SheetFault::BadWord { place, .. } => Returned::Value(*place),
             SheetFault::BadCue { fault, .. } => Returned::Value(fault.value()),
             SheetFault::BadTable(refusal) => Returned::Value(refusal.value()),
-            SheetFault::TooManyCues { most, .. } => Returned::Value(*most as usize),
+            SheetFault::TooManyCues { .. } => Returned::Value(CueList::MOST as usize),
             SheetFault::Overloaded {
                 demand,
                 length,

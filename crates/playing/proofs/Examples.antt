@@ -3,13 +3,13 @@ use Rattle.std.proofs.Common.{◌≡◌, ℕ, ◌-◌, ◌≤◌, Bool, true, fa
 use Rattle.std.specs.List.{AllByRecursion as All}
 use Rattle.std.proofs.ByRecursion.{All-get_or, All-weaker}
 use Rattle.std.proofs.lemmas.Bool.{and_parts, not-true}
-use Rattle.loading.specs.declared.candidate.Candidate.{Candidate}
+use Rattle.cues.specs.declared.candidate.Candidate.{Candidate}
 use Rattle.cues.specs.Demand.{Job, demand}
-use Rattle.loading.specs.Loading.{SomeJob, Loading}
-use Rattle.loading.specs.CandidateOrders.{candidate_before}
-use Rattle.loading.proofs.Admission.{feasible_from_loading}
-use Rattle.loading.proofs.Greatest.{interval, greatest-from-unbeaten}
-use Rattle.loading.proofs.Intervals.{Timely}
+use Rattle.cues.specs.Loading.{SomeJob, Loading}
+use Rattle.cues.specs.Orders.{candidate_before}
+use Rattle.cues.proofs.Admission.{feasible_from_loading}
+use Rattle.cues.proofs.Greatest.{interval, greatest-from-unbeaten}
+use Rattle.cues.proofs.Intervals.{Timely}
 use Rattle.rates.specs.Policy.{Sufficient}
 use Rattle.playing.specs.Examples.{job, ReferenceEnds, LoadingFactors, HandedBounds, LastTicks, Admissions, WorkedExamples}
 

@@ -2,7 +2,7 @@
 use Rattle.std.specs.Prelude.{◌≡◌, ℕ, List, [], ◌∷◌, ◌++◌, map, replicate, Some, None, Option}
 use Rattle.std.specs.Option.{option_map}
 use Rattle.cues.specs.Demand.{Job, Feasible, Overloaded}
-use Rattle.loading.specs.Loading.{Loading}
+use Rattle.cues.specs.Loading.{Loading}
 use Rattle.rates.specs.Policy.{least, LeastExamples}
 use Rattle.renderers.specs.declared.answer.Answer.{Answer}
 use Rattle.renderers.specs.declared.answer.Answer.TheVariants as answer

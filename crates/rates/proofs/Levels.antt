@@ -87,14 +87,14 @@ pub least-is_lowest : (rates : List ℕ) (remaining ticks : ℕ) → Lowest rate
 least-is_lowest rates remaining ticks = lowest_from_found rates remaining ticks _ (found 1 rates remaining ticks)
 
 -- Where no lower level is sufficient, the answer is what a policy has to give.
-pub answers-from_lowest :
+pub answers_from_lowest :
     (rates : List ℕ) (remaining ticks : ℕ) (answer : Option ℕ) → Lawful rates → Lowest rates remaining ticks answer →
     Answers rates remaining ticks answer
-answers-from_lowest rates remaining ticks None lawful none =
+answers_from_lowest rates remaining ticks None lawful none =
     ⊎_elim (λ (slow : top_rate rates * ticks < remaining). slow)
     (λ (enough : remaining ≤ top_rate rates * ticks). absurd (none (length rates) (record { from_one = lawful.some; in_table = omega arith; enough = enough })))
     (cases_lt (top_rate rates * ticks) remaining)
-answers-from_lowest rates remaining ticks (Some level) lawful lowest = lowest.0
+answers_from_lowest rates remaining ticks (Some level) lawful lowest = lowest.0
 
 -- The search for the least level stops at a rate that is enough.
 pub least-stops :

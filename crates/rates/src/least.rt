@@ -1,7 +1,7 @@
 //! The policy that runs as slowly as the work allows.
 
 ghost use Rattle.std.specs.Prelude.{◌≡◌};
-ghost use Rattle.rates.specs.Policy.{Answers, least, Lowest, numbered};
+ghost use Rattle.rates.specs.Policy.{Answers, least, LeastExamples, Lowest, numbered};
 ghost use Rattle.rates.specs.Table.{rates_of};
 
 use crate::level::Level;
@@ -36,3 +36,8 @@ impl Policy for Least {
         least_level(table, remaining, ticks)
     }
 }
+
+/// Shows the definition of the least level at work on four examples; there is nothing to run.
+pub fn least_examples()
+    ensures { LeastExamples least }
+{}

@@ -12,7 +12,7 @@ mod tests;
 mod top;
 
 pub use floor::{Floor, twice_floored_least};
-pub use least::{Least, least_level};
+pub use least::{Least, least_examples, least_level};
 pub use level::Level;
 pub use policy::{Policy, choose_level};
 pub use refusal::TableRefusal;

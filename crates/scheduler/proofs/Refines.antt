@@ -11,10 +11,7 @@ use Rattle.scheduler.specs.declared.job.Job.{Job}
 use Rattle.scheduler.specs.declared.job.Stage.{Stage}
 use Rattle.scheduler.specs.declared.job.Stage.TheVariants.{Waiting, Running, Aside}
 use Rattle.calls.specs.declared.refusal.Refusal.{Refusal}
-use Rattle.cues.specs.declared.refusal.CueRefusal.{CueRefusal}
-use Rattle.cues.specs.Cues.{cue_refusal}
-use Rattle.cues.proofs.Limits.{within-where_taken}
-use Rattle.calls.specs.declared.refusal.Refusal.TheVariants.{Job as bad_job, Pending, Budgets, Clock}
+use Rattle.calls.specs.declared.refusal.Refusal.TheVariants.{Budget, Deadline, Pending, Budgets, Clock}
 use Rattle.calls.specs.declared.ticked.Ending.{Ending}
 use Rattle.calls.specs.declared.ticked.Ran.{Ran}
 use Rattle.calls.specs.declared.ticked.Ticked.TheVariants.{Idle, Ran as ran}
@@ -91,22 +88,21 @@ pub record Acceptable (d : DayState) (deadline budget : ℕ) : Type 0 where
   pub budgets_low : d.budgets + budget ≤ 134217727
 
 pub acceptable : (d : DayState) (deadline budget : ℕ) → release_refusal d deadline budget ≡ None → Acceptable d deadline budget
-acceptable d deadline budget = go (cue_refusal d.clock deadline budget) refl
-  where
-    go : (o : Option CueRefusal) → cue_refusal d.clock deadline budget ≡ o → ◌≡◌ {A = Option Refusal} (elim o [ Some refusal ↦ Some (bad_job refusal) | None ↦ cond (ltb (length d.pending) 64) (cond (leb (d.budgets + budget) 134217727) None (Some (Budgets d.budgets))) (Some (Pending 64)) ]) None → Acceptable d deadline budget
-    go (Some refusal) refused e = let z : ◌≡◌ {A = ℕ} 0 1 = cc in absurd (omega arith)
-    go None taken e =
-        let within = within-where_taken d.clock deadline budget taken in
-        let first = passes (ltb (length d.pending) 64) _ (Pending 64) e in
-        let second = passes (leb (d.budgets + budget) 134217727) None (Budgets d.budgets) first.1 in
-        record {
-          some_budget = within.some_work;
-          small_budget = within.little_work;
-          ahead = within.rising;
-          small_deadline = within.in_time;
-          few = ltb-true (length d.pending) 64 first.0;
-          budgets_low = leb-true (d.budgets + budget) 134217727 second.0;
-        }
+acceptable d deadline budget e =
+    let first = passes (leb 1 budget && leb budget 65535) _ (Budget budget) e in
+    let second = passes (ltb d.clock deadline && leb deadline 134217727) _ (Deadline deadline) first.1 in
+    let third = passes (ltb (length d.pending) 64) _ (Pending 64) second.1 in
+    let fourth = passes (leb (d.budgets + budget) 134217727) None (Budgets d.budgets) third.1 in
+    let budget-right = and_parts (leb 1 budget) (leb budget 65535) first.0 in
+    let deadline-right = and_parts (ltb d.clock deadline) (leb deadline 134217727) second.0 in
+    record {
+      some_budget = leb-true 1 budget budget-right.0;
+      small_budget = leb-true budget 65535 budget-right.1;
+      ahead = ltb-true d.clock deadline deadline-right.0;
+      small_deadline = leb-true deadline 134217727 deadline-right.1;
+      few = ltb-true (length d.pending) 64 third.0;
+      budgets_low = leb-true (d.budgets + budget) 134217727 fourth.0;
+    }
 
 budgets-push : (rows : List SlowRow) (r : SlowRow) → budgets (rows ++ r ∷ []) ≡ budgets rows + r.job.budget
 budgets-push [] r = omega arith

@@ -1,6 +1,5 @@
 -- The day: what its calls refuse, and what an accepted one makes of it.
 use Rattle.std.specs.Prelude.{◌≡◌, ℕ, ◌+◌, ◌-◌, ◌*◌, Bool, cond, ◌&&◌, List, [], ◌∷◌, ◌++◌, map, length, is_some, Some, None, Option, ◌==◌, nat_le, nat_lt}
-use Rattle.cues.specs.Cues.{cue_refusal}
 use Rattle.rates.specs.declared.level.Level.{Level}
 use Rattle.rates.specs.Table.{rate_of, top_rate}
 use Rattle.rates.specs.Policy.{Sufficient}
@@ -18,7 +17,7 @@ use Rattle.calls.specs.declared.ticked.Turn.TheVariants.{Start, Resume}
 use Rattle.calls.specs.declared.ticked.Ending.{Ending}
 use Rattle.calls.specs.declared.ticked.Ending.TheVariants as ending
 use Rattle.calls.specs.declared.refusal.Refusal.{Refusal}
-use Rattle.calls.specs.declared.refusal.Refusal.TheVariants.{Job as bad_job, Pending, Budgets, Clock}
+use Rattle.calls.specs.declared.refusal.Refusal.TheVariants.{Budget, Deadline, Pending, Budgets, Clock}
 use Rattle.runs.specs.SlowRun as slow
 
 -- A day between two calls: the rates of its table, the clock, how many jobs were accepted and their summed budgets, the
@@ -45,18 +44,19 @@ opened rates =
       handed_deadline = 0;
     }
 
--- Why a release is refused, the want of room left aside: the lowest number that applies. A job is released at the clock, and
--- has the limits of a cue.
+-- Why a release is refused, the want of room left aside: the lowest number that applies.
 abbrev pub release_refusal : DayState → ℕ → ℕ → Option Refusal
 release_refusal s deadline budget =
-    elim (cue_refusal s.clock deadline budget) [
-      | Some refusal ↦ Some (bad_job refusal)
-      | None ↦
-          cond
-          (nat_lt (length s.pending) 64)
-          (cond (nat_le (s.budgets + budget) 134217727) None (Some (Budgets s.budgets)))
-          (Some (Pending 64))
-    ]
+    cond
+    (nat_le 1 budget && nat_le budget 65535)
+    (cond
+    (nat_lt s.clock deadline && nat_le deadline 134217727)
+    (cond
+    (nat_lt (length s.pending) 64)
+    (cond (nat_le (s.budgets + budget) 134217727) None (Some (Budgets s.budgets)))
+    (Some (Pending 64)))
+    (Some (Deadline deadline)))
+    (Some (Budget budget))
 
 -- The day after a release that was accepted: the job has the next number, and its budget at the top rate remains.
 abbrev pub released : DayState → ℕ → ℕ → DayState

@@ -15,11 +15,10 @@ ghost use Rattle.scheduler.specs.Pending.{items};
 ghost use Rattle.scheduler.specs.Places.{first_place, runner_place};
 
 use crate::pending::Pending;
-use cues::cue::Cue;
 use rates::RateTable;
 
-/// The last clock of a day: no deadline is later.
-const LAST_CLOCK: u32 = Cue::LATEST_DEADLINE;
+/// The last clock of a day, and the last deadline that a job may have.
+const LAST_CLOCK: u32 = 134_217_727;
 
 /// The free words that a release or a tick wants: no call writes more, and one is left for closing the day.
 const CALL_WORDS: usize = 10;

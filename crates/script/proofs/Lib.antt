@@ -1,4 +1,5 @@
 mod PartSteps
+mod RateSteps
 mod CallSteps
 mod ReadBack
 mod WriteBack

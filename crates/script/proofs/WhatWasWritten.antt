@@ -1,13 +1,12 @@
 -- What the answer of reading says of the words as a script.
 use Rattle.std.proofs.Common.{◌≡◌, ℕ, ◌%◌, eqb, List, length, Ok, Err, Result, sym, ap, ◌∙◌}
 use Rattle.std.proofs.lemmas.Bool.{cond_both, cond-true, eqb-true, eq-eqb}
-use Rattle.words.specs.Bytes.{left_over}
 use Rattle.words.specs.Words.{whole}
 use Rattle.script.specs.declared.Script.{Script}
 use Rattle.script.specs.declared.ScriptError.{ScriptError}
 use Rattle.script.specs.declared.ScriptError.TheVariants.{WrongWord, NoMemory}
 use Rattle.script.specs.Reading.{Contents, Reading, reading}
-use Rattle.script.specs.Scripts.{contents, ReadBytesAs}
+use Rattle.script.specs.Scripts.{contents, left_over, ReadBytesAs}
 use Rattle.script.specs.ScriptWords.{WrittenBytes}
 use Rattle.script.proofs.ReadBack.{wrong-is_no_script, written_where_read}
 use Rattle.script.proofs.WriteBack.{read_where_written}

@@ -1,25 +1,18 @@
 -- What the reader finds part by part, said by what the script reads as from there on.
 use Rattle.std.specs.Prelude.{◌≡◌, ℕ, ◌+◌, ◌≤◌, List, [], ◌∷◌, ◌++◌, length, replicate, None, Ok, Err, vec_items, Result, Vec}
 use Rattle.std.specs.declared.alloc.Global.{Global}
-use Rattle.heading.specs.declared.HeadError.{HeadError}
-use Rattle.heading.specs.declared.HeadError.TheVariants.{FirstWord, NoMemory as head_no_memory}
 use Rattle.calls.specs.declared.call.Call.{Call}
 use Rattle.calls.specs.declared.call.Call.TheVariants.{Release, Tick}
 use Rattle.script.specs.declared.ScriptError.{ScriptError}
 use Rattle.script.specs.declared.ScriptError.TheVariants.{WrongWord, NoMemory}
 use Rattle.script.specs.declared.Part.{Part}
 use Rattle.script.specs.declared.Part.TheVariants.{Release as a_release, Ticks, End}
-use Rattle.script.specs.Reading.{Contents, Reading, tape_from, calls_from}
+use Rattle.script.specs.Reading.{Contents, Reading, tape_from, calls_from, rates_from}
 
 -- What is wrong with the words: the first of them that is wrong or missing. Want of memory says nothing of them.
 abbrev pub Wrong : Reading → ScriptError → Type 0
 Wrong read (WrongWord place) = read ≡ Err place
 Wrong read NoMemory = Unit {0}
-
--- A script without a head is wrong at its first word.
-abbrev pub no_head : HeadError → ScriptError
-no_head (FirstWord fault) = WrongWord 0
-no_head head_no_memory = NoMemory
 
 -- The next part of the calls, and the words behind it.
 abbrev pub After : ℕ → ℕ → List ℕ → Part → List ℕ → Type 0
@@ -57,3 +50,8 @@ abbrev pub Calls : ℕ → List ℕ → Result (Vec Call Global × Vec ℕ Globa
 Calls place ws r =
     (rates : List ℕ) →
     Told (calls_from place rates [] 0 None ws) (λ p. record { rates = rates; calls = vec_items p.0; tape = vec_items p.1 }) r
+
+-- The rates at the front of the words behind the edition, and the words behind them.
+abbrev pub Rates : List ℕ → List ℕ → List ℕ → Type 0
+Rates ws rates rest =
+    (length rates + length rest ≡ length ws) × (rates_from 1 [] ws ≡ calls_from (1 + length rates) rates [] 0 None rest)

@@ -1,6 +1,6 @@
 -- Scripts that were read, and the answers of reading.
-use Rattle.std.specs.Prelude.{ℕ, List, vec_items, Result}
-use Rattle.words.specs.Bytes.{read_bytes}
+use Rattle.std.specs.Prelude.{ℕ, ◌%◌, cond, List, length, Ok, Err, vec_items, Result, ◌==◌}
+use Rattle.words.specs.Words.{whole}
 use Rattle.script.specs.declared.Script.{Script}
 use Rattle.script.specs.declared.ScriptError.{ScriptError}
 use Rattle.script.specs.Reading.{Contents, Reading, reading}
@@ -15,9 +15,13 @@ contents script =
 abbrev pub ReadAs : List ℕ → Result Script ScriptError → Type 0
 ReadAs words r = Told (reading words) contents r
 
--- Bytes read as their whole words do; where some are left over, a word is missing there.
+-- Bytes read as their whole words do; but where some are left over, a script that they make lacks a word there.
+abbrev pub left_over : ℕ → ℕ → Reading → Reading
+left_over bytes words (Ok c) = cond (bytes % 4 == 0) (Ok c) (Err words)
+left_over bytes words (Err place) = Err place
+
 abbrev pub reading_bytes : List ℕ → Reading
-reading_bytes bytes = read_bytes reading (λ place. place) bytes
+reading_bytes bytes = left_over (length bytes) (length (whole bytes)) (reading (whole bytes))
 
 abbrev pub ReadBytesAs : List ℕ → Result Script ScriptError → Type 0
 ReadBytesAs bytes r = Told (reading_bytes bytes) contents r

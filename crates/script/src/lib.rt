@@ -1,15 +1,14 @@
 //! A script: the rates of a table, the calls of a day and the answers of a renderer, as words. Edition 1 comes first,
 //! then a word for each rate. A deadline with its budget is a release, and a word of ticks stands for so many of them.
 //! The end word counts the words of the answer tape, which follow it and are the last.
-ghost use Rattle.std.specs.Prelude.{◌≡◌, ◌+◌, ◌^◌, ◌<◌, ◌≤◌, ◌++◌, length, replicate, Ok, Err};
+ghost use Rattle.std.specs.Prelude.{◌≡◌, ◌+◌, ◌^◌, ◌<◌, ◌≤◌, ◌++◌, length, replicate, IfOk, Ok, Err};
 ghost use Rattle.calls.specs.declared.call.Call.TheVariants.{Tick};
 ghost use Rattle.script.specs.declared.ScriptError.TheVariants.{NoMemory};
-ghost use Rattle.script.specs.Parts.{After, WrongAt, Tape, Calls, no_head};
+ghost use Rattle.script.specs.Parts.{After, WrongAt, Tape, Calls, Rates};
 ghost use Rattle.script.specs.Scripts.{ReadAs, ReadBytesAs};
 ghost use Rattle.script.specs.ScriptWords.{WrittenBytes};
 
 use calls::call::Call;
-use heading::{Head, HeadError, read_head};
 use std::alloc::{AllocError, AllocFailed, Global};
 use words::{Kind, is_kind, payload_of, words_of};
 
@@ -48,17 +47,6 @@ impl<T: Drop> From<AllocFailed<T>> for ScriptError {
 
     fn from(_e: AllocFailed<T>) -> ScriptError {
         ScriptError::NoMemory
-    }
-}
-
-impl From<HeadError> for ScriptError {
-    ghost from_gives = { λ error r. r ≡ no_head error };
-
-    fn from(error: HeadError) -> ScriptError {
-        match error {
-            HeadError::FirstWord(_) => ScriptError::WrongWord { place: 0 },
-            HeadError::NoMemory => ScriptError::NoMemory,
-        }
     }
 }
 
@@ -126,6 +114,21 @@ fn read_tape(heap: Global, words: &[u32], count: u32, place: usize) -> Result<Ve
     Ok(words.to_vec(heap)?)
 }
 
+/// The rates at the front of the words behind the edition, and the words behind them.
+fn read_rates(heap: Global, words: &[u32]) -> Result<(Vec<u32>, &[u32]), AllocError>
+    ensures { IfOk result (λ p. Rates words.now p.0.items p.1.now) }
+{
+    let mut rates = Vec::new(heap);
+    let mut left = words;
+    while let [rate, rest @ ..] = left
+        && is_kind(*rate, Kind::Rate)
+    {
+        rates.push(payload_of(*rate))?;
+        left = rest;
+    }
+    Ok((rates, left))
+}
+
 /// The calls and the tape behind them. The word at `first` is the first of `words`.
 fn read_calls(
     heap: Global,
@@ -164,8 +167,11 @@ fn read_calls(
 fn read_words(heap: Global, words: &[u32]) -> Result<Script, ScriptError>
     ensures { ReadAs words.now result }
 {
-    let Head { rates, rest } = read_head(heap, words)?;
-    let (calls, tape) = read_calls(heap, rest, 1 + rates.len())?;
+    let [1, behind @ ..] = words else {
+        return Err(ScriptError::WrongWord { place: 0 });
+    };
+    let (rates, left) = read_rates(heap, behind)?;
+    let (calls, tape) = read_calls(heap, left, 1 + rates.len())?;
     Ok(Script { rates, calls, tape })
 }
 

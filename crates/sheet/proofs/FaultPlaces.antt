@@ -1,11 +1,8 @@
 -- A fault stands at one of the words, or behind the last where they end early.
-use Rattle.std.proofs.Common.{◌≡◌, ℕ, ◌+◌, ◌-◌, ◌≤◌, cond, eqb, ltb, List, [], ◌∷◌, ◌++◌, length, Some, None, Ok, Err, Option, Result, refl, subst, arith}
+use Rattle.std.proofs.Common.{◌≡◌, ℕ, ◌+◌, ◌-◌, ◌≤◌, cond, eqb, ltb, List, [], ◌∷◌, ◌++◌, length, Some, None, Ok, Err, Option, Result, subst, arith}
 use Rattle.std.proofs.lemmas.Bool.{cond_both}
-use Rattle.words.specs.declared.Kind.TheVariants.{Release, Deadline, Budget, Spent, End}
-use Rattle.words.specs.declared.fault.WordFault.{WordFault}
+use Rattle.words.specs.declared.Kind.TheVariants.{Release, Deadline, Budget, Spent, Rate, End}
 use Rattle.words.specs.Words.{is, payload}
-use Rattle.heading.specs.Heading.{Front, head}
-use Rattle.heading.proofs.Fronts.{head-counts}
 use Rattle.rates.specs.declared.refusal.TableRefusal.{TableRefusal}
 use Rattle.rates.specs.Judged.{judged}
 use Rattle.cues.specs.declared.refusal.CueRefusal.{CueRefusal}
@@ -16,7 +13,7 @@ use Rattle.faults.specs.declared.ReadError.{ReadError}
 use Rattle.faults.specs.declared.ReadError.TheVariants.{Fault, NoMemory}
 use Rattle.sheet.specs.declared.read.ReadSheet.{ReadSheet}
 use Rattle.faults.specs.Fault.{fault_place}
-use Rattle.sheet.specs.Reading.{Entry, Contents, Reading, Part, none, released, due, budgeted, ended, cues_from, cue_taken, table_then_cues, behind_head, reading}
+use Rattle.sheet.specs.Reading.{Entry, Contents, Reading, Part, none, released, due, budgeted, ended, cues_from, cue_taken, rates_from, reading}
 use Rattle.sheet.specs.Sheets.{ReadAs, Placed}
 
 -- A fault, if there is one, stands at this place at the latest.
@@ -35,9 +32,9 @@ end_upto place c w (v ∷ vs) =
 taken_upto : (n first : ℕ) (before : List Entry) (e : Entry) (taken : Reading) → first ≤ n → Upto n taken → Upto n (cue_taken first before e taken)
 taken_upto n first before e taken early later = by-refusal (cue_refusal e.release e.deadline e.budget)
   where
-    by-refusal : (o : Option CueRefusal) → Upto n (elim o [ Some refusal ↦ Err (BadCue first (Refused refusal)) | None ↦ cond (ltb (length before) 1024) taken (Err (TooManyCues first 1024)) ])
+    by-refusal : (o : Option CueRefusal) → Upto n (elim o [ Some refusal ↦ Err (BadCue first (Refused refusal)) | None ↦ cond (ltb (length before) 1024) taken (Err (TooManyCues first)) ])
     by-refusal (Some refusal) = early
-    by-refusal None = cond_both (ltb (length before) 1024) taken (Err (TooManyCues first 1024)) (Upto n) (λ _. later) (λ _. early)
+    by-refusal None = cond_both (ltb (length before) 1024) taken (Err (TooManyCues first)) (Upto n) (λ _. later) (λ _. early)
 
 cues_upto : (place : ℕ) (rates : List ℕ) (before : List Entry) (part : Part) (ws : List ℕ) → Upto (place + length ws) (cues_from place rates before part ws)
 cues_upto place rates before part [] = omega arith
@@ -54,20 +51,21 @@ cues_upto place rates before (budgeted r d b) (w ∷ ws) =
     (λ _. taken_upto (place + length (w ∷ ws)) (place - 3) before e _ (omega arith) (next place w ws _ (cues_upto (place + 1) rates (before ++ (e ∷ [])) none ws)))
     (λ _. omega arith)
 
-table_upto : (rates rest : List ℕ) → Upto (1 + length rates + length rest) (table_then_cues rates rest)
-table_upto rates [] = omega arith
-table_upto rates (w ∷ ws) = by-verdict (judged rates)
+rates_upto : (place : ℕ) (before ws : List ℕ) → 1 ≤ place → Upto (place + length ws) (rates_from place before ws)
+rates_upto place before [] from_one = omega arith
+rates_upto place before (w ∷ ws) from_one =
+    cond_both (is Rate w) _ _ (Upto (place + length (w ∷ ws)))
+    (λ _. next place w ws _ (rates_upto (place + 1) (before ++ (payload w ∷ [])) ws (omega arith)))
+    (λ _. by-verdict (judged before))
   where
-    by-verdict : (o : Option TableRefusal) → Upto (1 + length rates + length (w ∷ ws)) (elim o [ Some refusal ↦ Err (BadTable refusal) | None ↦ cues_from (1 + length rates) rates [] none (w ∷ ws) ])
+    by-verdict : (o : Option TableRefusal) → Upto (place + length (w ∷ ws)) (elim o [ Some refusal ↦ Err (BadTable refusal) | None ↦ cues_from place before [] none (w ∷ ws) ])
     by-verdict (Some refusal) = omega arith
-    by-verdict None = cues_upto (1 + length rates) rates [] none (w ∷ ws)
+    by-verdict None = cues_upto place before [] none (w ∷ ws)
 
 reading-upto : (words : List ℕ) → Upto (length words) (reading words)
-reading-upto words = by-head (head words) refl
-  where
-    by-head : (found : Result Front WordFault) → head words ≡ found → Upto (length words) (behind_head found)
-    by-head (Ok front) is = subst (λ n. Upto n (table_then_cues front.rates front.rest)) (head-counts words front is) (table_upto front.rates front.rest)
-    by-head (Err fault) is = omega arith
+reading-upto [] = omega arith
+reading-upto (w ∷ ws) =
+    cond_both (eqb w 1) _ _ (Upto (length (w ∷ ws))) (λ _. subst (λ n. Upto n (rates_from 1 [] ws)) (omega arith) (rates_upto 1 [] ws (omega arith))) (λ _. omega arith)
 
 pub placed_by_answer : (words : List ℕ) (r : Result ReadSheet ReadError) → ReadAs words r → Placed words r
 placed_by_answer words (Ok sheet) h = tt

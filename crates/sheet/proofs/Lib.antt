@@ -1,5 +1,6 @@
 mod CueWords
 mod CueSteps
+mod RateSteps
 mod CueBounds
 mod ReadBack
 mod WriteBack

@@ -1,7 +1,7 @@
 -- When a sheet is admitted, and what is said of one that is not.
 use Rattle.std.specs.Prelude.{◌≡◌, ℕ, ◌-◌, ◌<◌, Some, None, Ok, Err, Option, Result}
 use Rattle.cues.specs.Demand.{demand, Feasible}
-use Rattle.loading.specs.Loading.{Loading}
+use Rattle.cues.specs.Loading.{Loading}
 use Rattle.faults.specs.declared.SheetFault.{SheetFault}
 use Rattle.faults.specs.declared.SheetFault.TheVariants.{BadWord, BadCue, BadTable, TooManyCues, Overloaded}
 use Rattle.sheet.specs.declared.read.ReadSheet.{ReadSheet}
@@ -27,7 +27,7 @@ abbrev pub OverloadedBy : ReadSheet → SheetFault → Type 0
 OverloadedBy sheet (BadWord place fault) = ⊥
 OverloadedBy sheet (BadCue place fault) = ⊥
 OverloadedBy sheet (BadTable refusal) = ⊥
-OverloadedBy sheet (TooManyCues place most) = ⊥
+OverloadedBy sheet (TooManyCues place) = ⊥
 OverloadedBy sheet (Overloaded d l a b place) = (place ≡ end_place sheet) × TooMuch sheet d l a b
 
 -- A sheet is admitted as it was where no interval demands more ticks than it has; otherwise, and for want of memory, it

@@ -1,16 +1,17 @@
 -- What the reader finds part by part, said by what the whole sheet reads as from there on.
-use Rattle.std.specs.Prelude.{◌≡◌, ℕ, ◌+◌, ◌<◌, ◌≤◌, Bool, true, false, cond, List, [], ◌∷◌, ◌++◌, map, length, drop, Some, None, Ok, Err, Option, Result, nat_lt}
-use Rattle.words.specs.declared.Kind.TheVariants.{End}
+use Rattle.std.specs.Prelude.{◌≡◌, ℕ, ◌+◌, ◌<◌, ◌≤◌, Bool, true, false, cond, List, [], ◌∷◌, ◌++◌, map, length, drop, Some, None, Ok, Err, Option, Result, ◌==◌, nat_lt}
+use Rattle.words.specs.declared.Kind.TheVariants.{Rate, End}
 use Rattle.words.specs.Words.{is}
-use Rattle.heading.specs.declared.HeadError.{HeadError}
-use Rattle.heading.specs.declared.HeadError.TheVariants.{FirstWord, NoMemory as head_no_memory}
 use Rattle.rates.specs.declared.table.RateTable.{RateTable}
+use Rattle.rates.specs.declared.refusal.TableRefusal.{TableRefusal}
+use Rattle.rates.specs.Judged.{judged}
 use Rattle.rates.specs.Table.{rates_of}
 use Rattle.cues.specs.declared.cue.Cue.{Cue}
 use Rattle.words.specs.declared.fault.WordFault.{WordFault}
+use Rattle.words.specs.declared.fault.WordFault.TheVariants.{EndsEarly}
 use Rattle.faults.specs.declared.CueFault.{CueFault}
 use Rattle.faults.specs.declared.CueFault.TheVariants.{BadWord as cue_word}
-use Rattle.faults.specs.declared.SheetFault.TheVariants.{BadWord as sheet_word, BadCue, TooManyCues}
+use Rattle.faults.specs.declared.SheetFault.TheVariants.{BadWord as sheet_word, BadCue, BadTable, TooManyCues}
 use Rattle.faults.specs.declared.SheetFault.{SheetFault}
 use Rattle.faults.specs.declared.ReadError.{ReadError}
 use Rattle.faults.specs.declared.ReadError.TheVariants.{Fault, NoMemory}
@@ -18,7 +19,7 @@ use Rattle.cues.specs.declared.list.CueList.{CueList}
 use Rattle.cues.specs.declared.refusal.ListRefusal.{ListRefusal}
 use Rattle.cues.specs.declared.refusal.ListRefusal.TheVariants.{Full, NoMemory as no_memory}
 use Rattle.cues.specs.CueLists.{cues_of}
-use Rattle.sheet.specs.Reading.{Entry, Contents, Reading, none, cues_from, cue_taken, table_then_cues, reading}
+use Rattle.sheet.specs.Reading.{Entry, Contents, Reading, none, cues_from, cue_taken, rates_from, reading}
 
 -- The four numbers of a cue.
 abbrev pub entry_of : Cue → Entry
@@ -53,7 +54,7 @@ NextCue place ws (Ok (Some c)) =
     (4 ≤ length ws)
     × ((rates : List ℕ) (before : List Entry) →
     cues_from place rates before none ws
-    ≡ cond (nat_lt (length before) 1024) (cues_from (place + 4) rates (before ++ (entry_of c ∷ [])) none (drop 4 ws)) (Err (TooManyCues place 1024)))
+    ≡ cond (nat_lt (length before) 1024) (cues_from (place + 4) rates (before ++ (entry_of c ∷ [])) none (drop 4 ws)) (Err (TooManyCues place)))
 NextCue place ws (Err f) = (rates : List ℕ) (before : List Entry) → cues_from place rates before none ws ≡ Err (BadCue place f)
 
 -- What is read from the end word on.
@@ -80,13 +81,13 @@ Cues place ws (Err NoMemory) = Unit {0}
 
 -- A full list has one cue too many; the want of memory is no fault of the sheet.
 abbrev pub not_added : ListRefusal → ℕ → ReadError
-not_added (Full most) place = Fault (TooManyCues place most)
+not_added (Full most) place = Fault (TooManyCues place)
 not_added no_memory place = NoMemory
 
 -- A cue was added behind those before it, or was one too many.
 abbrev pub Added : List Entry → Cue → ℕ → Result Unit ReadError → List Entry → Type 0
 Added old cue place (Ok u) new = (length old < 1024) × (new ≡ old ++ (entry_of cue ∷ []))
-Added old cue place (Err (Fault f)) new = (length old ≡ 1024) × (f ≡ TooManyCues place 1024)
+Added old cue place (Err (Fault f)) new = (length old ≡ 1024) × (f ≡ TooManyCues place)
 Added old cue place (Err NoMemory) new = Unit {0}
 
 -- The same as a cue of the sheet.
@@ -105,15 +106,35 @@ EndAt place count ws r =
     length before ≡ count →
     cues_from place rates before none ws ≡ after_end_at (record { rates = rates; entries = before }) r
 
--- The table that these rates make in front of the rest, or the sheet's fault.
-abbrev pub Table : List ℕ → List ℕ → Result RateTable SheetFault → Type 0
-Table rates rest (Ok table) = (rates_of table ≡ rates) × (table_then_cues rates rest ≡ cues_from (1 + length rates) rates [] none rest)
-Table rates rest (Err f) = table_then_cues rates rest ≡ Err f
+-- A rate stands here.
+abbrev pub at_rate : List ℕ → Bool
+at_rate [] = false
+at_rate (w ∷ ws) = is Rate w
 
--- A sheet without a head is wrong at its first word; the want of memory is no fault of the sheet.
-abbrev pub no_head : HeadError → ReadError
-no_head (FirstWord fault) = Fault (sheet_word 0 fault)
-no_head head_no_memory = NoMemory
+-- The rates of a table from word 1 on, all of them: no further rate stands behind them.
+pub record Rates (words rates : List ℕ) : Type 0 where
+  pub within : 1 + length rates ≤ length words
+  pub no_more : at_rate (drop (1 + length rates) words) ≡ false
+  pub left : rates_from 1 [] (drop 1 words) ≡ rates_from (1 + length rates) rates (drop (1 + length rates) words)
+
+-- The table that these rates make where a word of another kind follows them, out of so many words.
+abbrev pub Judged : List ℕ → ℕ → Result RateTable SheetFault → Type 0
+Judged rates words (Ok table) = (1 + length rates < words) × (judged rates ≡ None) × (rates_of table ≡ rates)
+Judged rates words (Err f) =
+    cond (1 + length rates == words) (f ≡ sheet_word words EndsEarly) ((refusal : TableRefusal) × (judged rates ≡ Some refusal) × (f ≡ BadTable refusal))
+
+-- The words behind the edition begin with this table, or the sheet has this fault.
+abbrev pub Table : List ℕ → Result RateTable ReadError → Type 0
+Table words (Ok table) =
+    (1 + length (rates_of table) ≤ length words)
+    × (rates_from 1 [] (drop 1 words) ≡ cues_from (1 + length (rates_of table)) (rates_of table) [] none (drop (1 + length (rates_of table)) words))
+Table words (Err (Fault f)) = rates_from 1 [] (drop 1 words) ≡ Err f
+Table words (Err NoMemory) = Unit {0}
+
+-- The first word is right, or the sheet has this fault.
+abbrev pub Edition : List ℕ → Result Unit SheetFault → Type 0
+Edition words (Ok u) = (1 ≤ length words) × (reading words ≡ rates_from 1 [] (drop 1 words))
+Edition words (Err f) = reading words ≡ Err f
 
 -- The words hold this table and these cues, or the sheet has this fault.
 abbrev pub Whole : List ℕ → Result (RateTable × CueList) ReadError → Type 0

@@ -1,8 +1,7 @@
 -- How the words of a sheet are read: what they hold, or the fault at the earliest place.
 use Rattle.std.specs.Prelude.{ℕ, ◌+◌, ◌-◌, cond, List, [], ◌∷◌, ◌++◌, length, Some, None, Ok, Err, Result, ◌==◌, nat_lt}
-use Rattle.words.specs.declared.Kind.TheVariants.{Release, Deadline, Budget, Spent, End}
+use Rattle.words.specs.declared.Kind.TheVariants.{Release, Deadline, Budget, Spent, Rate, End}
 use Rattle.words.specs.Words.{is, payload}
-use Rattle.heading.specs.Heading.{Front, head}
 use Rattle.rates.specs.Judged.{judged}
 use Rattle.cues.specs.Cues.{cue_refusal}
 use Rattle.words.specs.declared.fault.WordFault.{WordFault}
@@ -59,7 +58,7 @@ abbrev pub cue_taken : ℕ → List Entry → Entry → Reading → Reading
 cue_taken first before e taken =
     elim (cue_refusal e.release e.deadline e.budget) [
       | Some refusal ↦ Err (BadCue first (Refused refusal))
-      | None ↦ cond (nat_lt (length before) 1024) taken (Err (TooManyCues first 1024))
+      | None ↦ cond (nat_lt (length before) 1024) taken (Err (TooManyCues first))
     ]
 
 -- The words from a place in the cues on, one at a time, after the rates and the cues before, and a part of the next one.
@@ -78,17 +77,17 @@ cues_from place rates before (budgeted r d b) (w ∷ ws) =
     (cues_from (place + 1) rates (before ++ (record { release = r; deadline = d; budget = b; actual = payload w } ∷ [])) none ws))
     (wrong place (budgeted r d b) Misplaced)
 
--- The table is judged once a word of another kind follows its rates; then the cues are read.
-abbrev pub table_then_cues : List ℕ → List ℕ → Reading
-table_then_cues rates [] = Err (sheet_word (1 + length rates) EndsEarly)
-table_then_cues rates (w ∷ ws) =
-    elim (judged rates) [ Some refusal ↦ Err (BadTable refusal) | None ↦ cues_from (1 + length rates) rates [] none (w ∷ ws) ]
+-- The table is judged once a word of another kind follows its last rate.
+abbrev pub table_judged : ℕ → List ℕ → List ℕ → Reading
+table_judged place rates ws = elim (judged rates) [ Some refusal ↦ Err (BadTable refusal) | None ↦ cues_from place rates [] none ws ]
 
--- A sheet without a head is wrong at its first word.
-abbrev pub behind_head : Result Front WordFault → Reading
-behind_head (Ok front) = table_then_cues front.rates front.rest
-behind_head (Err fault) = Err (sheet_word 0 fault)
+-- The words from a place in the table on, after the rates before it.
+abbrev pub rates_from : ℕ → List ℕ → List ℕ → Reading
+rates_from place before [] = Err (sheet_word place EndsEarly)
+rates_from place before (w ∷ ws) =
+    cond (is Rate w) (rates_from (place + 1) (before ++ (payload w ∷ [])) ws) (table_judged place before (w ∷ ws))
 
--- The words of a whole sheet: the head, which is the edition and the rates, the cues and the end.
+-- The words of a whole sheet: the edition, the table, the cues and the end.
 abbrev pub reading : List ℕ → Reading
-reading words = behind_head (head words)
+reading [] = Err (sheet_word 0 EndsEarly)
+reading (w ∷ ws) = cond (w == 1) (rates_from 1 [] ws) (Err (sheet_word 0 Misplaced))

@@ -5,8 +5,8 @@ ghost use Rattle.sheet.specs.Sheets.{jobs};
 
 mod methods;
 
-use crate::read::ReadSheet;
 use faults::SheetFault;
+use crate::read::ReadSheet;
 
 /// A sheet that was admitted. Nothing but [`ReadSheet::admit`] makes one.
 #[derive(Drop)]

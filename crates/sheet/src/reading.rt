@@ -1,15 +1,14 @@
 //! Reading the words of a sheet, one part after the other.
-ghost use Rattle.std.specs.Prelude.{◌≡◌, ◌+◌, ◌^◌, ◌<◌, length};
-ghost use Rattle.sheet.specs.Parts.{CueWords, NextCue, EndWord, Cues, Added, not_added, entries_of, CueAt, EndAt, Table, no_head, Whole};
+ghost use Rattle.std.specs.Prelude.{◌≡◌, ◌+◌, ◌^◌, ◌<◌, ◌≤◌, [], length, drop, IfOk, Some, None, Ok, Err};
+ghost use Rattle.sheet.specs.Parts.{CueWords, NextCue, EndWord, Cues, Added, not_added, entries_of, CueAt, EndAt, Rates, Judged, Table, Edition, Whole};
 
+use faults::{CueFault, ReadError, SheetFault};
+use words::fault::WordFault;
 use cues::cue::Cue;
 use cues::list::CueList;
 use cues::refusal::ListRefusal;
-use faults::{CueFault, ReadError, SheetFault};
-use heading::{Head, HeadError, read_head};
 use rates::RateTable;
-use std::alloc::Global;
-use words::fault::WordFault;
+use std::alloc::{AllocError, Global};
 use words::{Kind, is_kind, payload_of};
 
 /// The payloads of the four words of a cue, the first at `place`; the first word that is wrong or missing is the fault.
@@ -74,7 +73,7 @@ fn not_added(refusal: ListRefusal, place: usize) -> ReadError
     ensures { result ≡ not_added refusal place }
 {
     match refusal {
-        ListRefusal::Full { most } => ReadError::Fault(SheetFault::TooManyCues { place, most }),
+        ListRefusal::Full { .. } => ReadError::Fault(SheetFault::TooManyCues { place }),
         ListRefusal::NoMemory => ReadError::NoMemory,
     }
 }
@@ -89,52 +88,64 @@ fn add_cue(cues: &mut CueList, cue: Cue, place: usize) -> Result<(), ReadError>
     }
 }
 
-/// What stands at `place`, where `left` begins: a cue, or none for the end word.
-fn cue_at(left: &[u32], place: usize) -> Result<Option<Cue>, SheetFault>
-    requires { place + length left.now < 2 ^ 64 }
-    ensures { CueAt place left.now result }
+/// What stands at `place`: a cue, or none for the end word.
+fn cue_at(words: &[u32], place: usize) -> Result<Option<Cue>, SheetFault>
+    requires { place ≤ length words.now }
+    ensures { CueAt place (drop place words.now) result }
 {
-    match next_cue(left, place) {
+    match next_cue(&words[place..], place) {
         Ok(found) => Ok(found),
         Err(fault) => Err(SheetFault::from((place, fault))),
     }
 }
 
-/// The end word at `place`, where `left` begins, is right for this many cues.
-fn end_at(left: &[u32], place: usize, cues: usize) -> Result<(), SheetFault>
-    requires { place + length left.now < 2 ^ 64 }
-    ensures { EndAt place cues left.now result }
+/// The end word at `place` is right for this many cues.
+fn end_at(words: &[u32], place: usize, cues: usize) -> Result<(), SheetFault>
+    requires { place ≤ length words.now }
+    ensures { EndAt place cues (drop place words.now) result }
 {
-    match check_end(left, place, cues) {
+    match check_end(&words[place..], place, cues) {
         Ok(()) => Ok(()),
         Err(fault) => Err(SheetFault::from(fault)),
     }
 }
 
-/// The cues up to the end word, which is the last. The word at `first` is the first of `words`.
+/// The cues from `first` on, up to the end word, which is the last.
 fn read_cues(heap: Global, words: &[u32], first: usize) -> Result<CueList, ReadError>
-    requires { first + length words.now < 2 ^ 64 }
-    ensures { Cues first words.now result }
+    requires { first ≤ length words.now }
+    ensures { Cues first (drop first words.now) result }
 {
     let mut cues = CueList::new(heap);
-    let mut left = words;
     let mut place = first;
-    while let Some(cue) = cue_at(left, place)? {
+    while let Some(cue) = cue_at(words, place)? {
         add_cue(&mut cues, cue, place)?;
-        left = &left[4..];
         place += 4;
     }
-    end_at(left, place, cues.len())?;
+    end_at(words, place, cues.len())?;
     Ok(cues)
 }
 
-/// The table that the rates make, judged once a word of another kind follows them.
-fn judge_rates(rates: &[u32], rest: &[u32]) -> Result<RateTable, SheetFault>
-    requires { 1 + length rates.now < 2 ^ 64 }
-    ensures { Table rates.now rest.now result }
+/// The payloads of the rates that stand from word 1 on.
+fn rate_payloads(heap: Global, words: &[u32]) -> Result<Vec<u32>, AllocError>
+    requires { 1 ≤ length words.now }
+    ensures { IfOk result (λ rates. Rates words.now rates.items) }
 {
-    if rest.is_empty() {
-        return Err(SheetFault::from((1 + rates.len(), WordFault::EndsEarly)));
+    let mut rates = Vec::new(heap);
+    let mut place = 1;
+    while place < words.len() && is_kind(words[place], Kind::Rate) {
+        rates.push(payload_of(words[place]))?;
+        place += 1;
+    }
+    Ok(rates)
+}
+
+/// The table of the rates from word 1 on, judged once a word of another kind follows them.
+fn judge_rates(rates: &[u32], words: usize) -> Result<RateTable, SheetFault>
+    requires { 1 + length rates.now ≤ words }
+    ensures { Judged rates.now words result }
+{
+    if 1 + rates.len() == words {
+        return Err(SheetFault::from((words, WordFault::EndsEarly)));
     }
     match RateTable::new(rates) {
         Ok(table) => Ok(table),
@@ -142,13 +153,26 @@ fn judge_rates(rates: &[u32], rest: &[u32]) -> Result<RateTable, SheetFault>
     }
 }
 
-/// Why a sheet has no head: its first word is wrong, or there is no memory.
-fn no_head(error: HeadError) -> ReadError
-    ensures { result ≡ no_head error }
+/// The table of a sheet, whose first word is its edition.
+fn read_table(heap: Global, words: &[u32]) -> Result<RateTable, ReadError>
+    requires { 1 ≤ length words.now }
+    ensures { Table words.now result }
 {
-    match error {
-        HeadError::FirstWord(fault) => ReadError::Fault(SheetFault::from((0, fault))),
-        HeadError::NoMemory => ReadError::NoMemory,
+    let rates = rate_payloads(heap, words)?;
+    match judge_rates(rates.as_slice(), words.len()) {
+        Ok(table) => Ok(table),
+        Err(fault) => Err(ReadError::from(fault)),
+    }
+}
+
+/// The first word is that of edition 1.
+fn check_edition(words: &[u32]) -> Result<(), SheetFault>
+    ensures { Edition words.now result }
+{
+    match words {
+        [] => Err(SheetFault::from((0, WordFault::EndsEarly))),
+        [1, ..] => Ok(()),
+        _ => Err(SheetFault::from((0, WordFault::Misplaced))),
     }
 }
 
@@ -156,11 +180,8 @@ fn no_head(error: HeadError) -> ReadError
 pub(crate) fn read_words(heap: Global, words: &[u32]) -> Result<(RateTable, CueList), ReadError>
     ensures { Whole words.now result }
 {
-    let Head { rates, rest } = match read_head(heap, words) {
-        Ok(head) => head,
-        Err(error) => return Err(no_head(error)),
-    };
-    let table = judge_rates(rates.as_slice(), rest)?;
-    let cues = read_cues(heap, rest, 1 + table.levels())?;
+    check_edition(words)?;
+    let table = read_table(heap, words)?;
+    let cues = read_cues(heap, words, 1 + table.levels())?;
     Ok((table, cues))
 }

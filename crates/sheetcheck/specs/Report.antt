@@ -1,7 +1,7 @@
 -- What is told of a sheet.
 use Rattle.std.specs.Prelude.{◌≡◌, ℕ, List, length, Ok, Err}
 use Rattle.cues.specs.Demand.{Feasible}
-use Rattle.loading.specs.Loading.{Loading}
+use Rattle.cues.specs.Loading.{Loading}
 use Rattle.cues.specs.CueLists.{cues_of}
 use Rattle.sheet.specs.declared.read.ReadSheet.{ReadSheet}
 use Rattle.sheet.specs.Sheets.{contents, jobs, reading_bytes}

@@ -64,7 +64,7 @@ pub fn report_on(heap: Global, bytes: &[u8]) -> Result<Report, AllocError>
 fn summary_of(heap: Global, sheet: ReadSheet) -> Result<Summary, AllocError>
     ensures { IfOk result (λ summary. Summarizes sheet summary) }
 {
-    let table = sheet.table();
+    let table = *sheet.table();
     let cues = sheet.cues().len();
     let (demand, length, start, end) = sheet.loading_factor(heap)?;
     let load = Load {

@@ -173,13 +173,11 @@ fn full_sheet(heap: Global) -> Result<Vec<u32>, AllocError> {
 #[test]
 fn the_cue_past_1024_is_one_too_many(rt: HostRuntime) -> Result<(), Fail> {
     let heap = rt.alloc();
-    let mut words = full_sheet(heap)?;
-    words.extend_from_slice(&[0x1000_0000, 0x2000_0001, 0x3000_0001, 0x4000_0000])?;
+    let mut words = vec![in heap; 0x0000_0001, 0xe000_000e]?;
+    for _ in 0..1_025 {
+        words.extend_from_slice(&[0x1000_0000, 0x2000_0001, 0x3000_0001, 0x4000_0000])?;
+    }
     assert_eq!(rt; told(heap, words.as_slice())?.as_str(), "sheet 11 4098");
-    assert_eq!(rt;
-        returned(heap, words.as_slice()),
-        Some(Returned::Value(1_024))
-    );
     Ok(())
 }
 
@@ -201,7 +199,7 @@ fn returned(heap: Global, words: &[u32]) -> Option<Returned> {
 }
 
 #[test]
-fn a_fault_returns_its_value(rt: HostRuntime) {
+fn a_fault_returns_its_value(rt: HostRuntime) -> Result<(), Fail> {
     let heap = rt.alloc();
     assert_eq!(rt;
         returned(heap, &[0x0000_0001, 0xe000_000e]),
@@ -218,4 +216,11 @@ fn a_fault_returns_its_value(rt: HostRuntime) {
         returned(heap, &too_late),
         Some(Returned::Value(134_217_728))
     );
+    let mut too_many = full_sheet(heap)?;
+    too_many.extend_from_slice(&[0x1000_0000, 0x2000_0001, 0x3000_0001, 0x4000_0000])?;
+    assert_eq!(rt;
+        returned(heap, too_many.as_slice()),
+        Some(Returned::Value(1_024))
+    );
+    Ok(())
 }

@@ -9,14 +9,16 @@ ghost use Rattle.scheduler.specs.Outcomes.{Refused, Releases};
 ghost use Rattle.scheduler.specs.Pending.{items};
 ghost use Rattle.scheduler.specs.Places.{first_place};
 
-use super::{CALL_WORDS, Day};
+use super::{CALL_WORDS, Day, LAST_CLOCK};
 use crate::job::{Job, Stage};
 use crate::pending::MOST_PENDING;
 use crate::recording::{check_room, record_release};
 use calls::refusal::Refusal;
-use cues::cue::Cue;
 use ordering::Before;
 use recorder::Trace;
+
+/// The largest budget of a job, in ticks at the top rate.
+const LARGEST_BUDGET: u32 = 65_535;
 
 /// The largest sum of the budgets that a day accepts.
 const LARGEST_SUM: u32 = 134_217_727;
@@ -49,7 +51,12 @@ impl Day {
     fn check_job(&self, deadline: u32, budget: u32) -> Result<(), Refusal>
         ensures { result_err result ≡ release_refusal (model self.now) deadline budget }
     {
-        Cue::check(self.clock, deadline, budget)?;
+        if budget == 0 || budget > LARGEST_BUDGET {
+            return Err(Refusal::Budget { budget });
+        }
+        if deadline <= self.clock || deadline > LAST_CLOCK {
+            return Err(Refusal::Deadline { deadline });
+        }
         if !self.pending.has_place() {
             return Err(Refusal::Pending {
                 most: MOST_PENDING as u32,

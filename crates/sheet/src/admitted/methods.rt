@@ -3,12 +3,13 @@ ghost use Rattle.std.specs.Prelude.{◌≡◌, IfOk};
 ghost use Rattle.cues.specs.CueLists.{cues_of};
 ghost use Rattle.cues.specs.Cues.{jobs_of};
 ghost use Rattle.cues.specs.Demand.{Feasible};
+ghost use Rattle.sheet.specs.Sheets.{jobs};
 ghost use Rattle.sheet.specs.Admission.{Admission, Overload};
 
 use super::{AdmittedSheet, NotAdmitted};
+use faults::SheetFault;
 use crate::read::ReadSheet;
 use cues::cue::Cue;
-use faults::SheetFault;
 use rates::RateTable;
 use std::alloc::{AllocError, Global};
 
@@ -47,11 +48,19 @@ fn overload(sheet: &ReadSheet, heap: Global) -> Result<Option<(u32, u32, u32, u3
 }
 
 impl AdmittedSheet {
+    /// The sheet that was admitted.
+    pub fn sheet(&self) -> &ReadSheet
+        ensures same { result.now ≡ self.now.sheet }
+        ensures feasible { Feasible (jobs self.now.sheet) }
+    {
+        &self.sheet
+    }
+
     /// The rate table.
     pub fn table(&self) -> RateTable
         ensures { result ≡ self.now.sheet.table }
     {
-        self.sheet.table()
+        *self.sheet.table()
     }
 
     /// The cues, in the order of the sheet: no interval demands more ticks of them than it has.
@@ -59,6 +68,6 @@ impl AdmittedSheet {
         ensures same { result.now ≡ cues_of self.now.sheet.cues }
         ensures feasible { Feasible (jobs_of result.now) }
     {
-        self.sheet.cues()
+        self.sheet.cues().as_slice()
     }
 }

@@ -1,18 +1,16 @@
 //! Reading a sheet from words or bytes, and looking at what it holds.
 ghost use Rattle.std.specs.Prelude.{◌≡◌, IfOk};
-ghost use Rattle.cues.specs.CueLists.{cues_of};
-ghost use Rattle.loading.specs.Loading.{Loading};
+ghost use Rattle.cues.specs.Loading.{Loading};
 ghost use Rattle.sheet.specs.Sheets.{ReadAs, ReadBytesAs, Placed, end_place, jobs};
 ghost use Rattle.sheet.specs.SheetWords.{Written, WrittenBytes};
 
 use super::ReadSheet;
-use crate::reading::read_words;
-use cues::cue::Cue;
 use faults::{ReadError, SheetFault};
-use loading::loading_factor;
+use words::fault::WordFault;
+use crate::reading::read_words;
+use cues::list::CueList;
 use rates::RateTable;
 use std::alloc::{AllocError, Global};
-use words::fault::WordFault;
 use words::words_of;
 
 impl ReadSheet {
@@ -41,17 +39,17 @@ impl ReadSheet {
     }
 
     /// The rate table.
-    pub fn table(&self) -> RateTable
-        ensures { result ≡ self.now.table }
+    pub fn table(&self) -> &RateTable
+        ensures { result.now ≡ self.now.table }
     {
-        self.table
+        &self.table
     }
 
     /// The cues, in the order of the sheet.
-    pub fn cues(&self) -> &[Cue]
-        ensures { result.now ≡ cues_of self.now.cues }
+    pub fn cues(&self) -> &CueList
+        ensures { result.now ≡ self.now.cues }
     {
-        self.cues.as_slice()
+        &self.cues
     }
 
     /// The place of the end word.
@@ -65,6 +63,6 @@ impl ReadSheet {
     pub fn loading_factor(&self, heap: Global) -> Result<(u32, u32, u32, u32), AllocError>
         ensures { IfOk result (λ t. Loading (jobs self.now) t.0 t.1 t.2 t.3) }
     {
-        loading_factor(&self.cues, heap)
+        self.cues.loading_factor(heap)
     }
 }

@@ -2,7 +2,7 @@ use Rattle.std.proofs.Common.{◌≡◌, ℕ, List, Some, None, Option, sym, ◌
 use Rattle.std.proofs.lemmas.List.{at_drop_all}
 use Rattle.rates.specs.Policy.{Answers, Lowest, least, least_from}
 use Rattle.rates.specs.Table.{rates_of}
-use Rattle.rates.proofs.Levels.{answers-from_lowest, least-is_lowest, least-stops, least-goes_on}
+use Rattle.rates.proofs.Levels.{answers_from_lowest, least-is_lowest, least-stops, least-goes_on}
 use Rattle.rates.proofs.Tables.{table_is_lawful}
 use Rattle.rates.specs.declared.table.RateTable.{RateTable}
 use Rattle.rates.proofs.least.least_level.Goals as goal
@@ -16,7 +16,7 @@ at_the_table table slice remaining ticks answer same found =
     subst (λ (rates : List ℕ). answer ≡ least rates remaining ticks) same found in
     let lowest : Lowest (rates_of table) remaining ticks answer =
     subst (Lowest (rates_of table) remaining ticks) (sym exact) (least-is_lowest (rates_of table) remaining ticks) in
-    (exact, lowest, answers-from_lowest (rates_of table) remaining ticks answer (table_is_lawful table) lowest)
+    (exact, lowest, answers_from_lowest (rates_of table) remaining ticks answer (table_is_lawful table) lowest)
 
 pub returns-then-is-enough : goal.returns-then-is-enough
 returns-then-is-enough c =

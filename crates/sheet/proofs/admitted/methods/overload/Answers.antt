@@ -1,5 +1,5 @@
 use Rattle.std.proofs.Common.{◌<◌, ◌≤◌, arith}
-use Rattle.loading.proofs.Admission.{feasible_from_loading, overloaded_from_loading}
+use Rattle.cues.proofs.Admission.{feasible_from_loading, overloaded_from_loading}
 use Rattle.sheet.specs.Sheets.{jobs}
 use Rattle.sheet.proofs.admitted.methods.overload.Goals as goal
 

@@ -1,7 +1,0 @@
-pub mod Writing
-pub mod Bests
-pub mod Intervals
-pub mod Greatest
-pub mod Deadlines
-pub mod FromBests
-pub mod Admission

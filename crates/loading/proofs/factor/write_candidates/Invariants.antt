@@ -1,5 +1,0 @@
-use Rattle.loading.proofs.Writing.{Writing}
-use Rattle.loading.proofs.factor.write_candidates.Given as goal
-
-abbrev pub invariant-loop-place : goal.invariant-loop-place
-invariant-loop-place l = Writing l.start l.dues l.late l.place l.demand l.candidates
