@@ -1,10 +1,9 @@
 // A cue as it stands in a list in the order of deadlines: two such are compared by their deadlines alone.
-ghost use Rattle.std.specs.Prelude.{◌≡◌, ◌<◌, IsSomeAnd, Some, Decides, refl};
-ghost use Rattle.std.specs.Ordering.{MatchOrdering, nat_cmp};
-ghost use Rattle.std.specs.Cmp.Rules.{comparing};
+ghost use Rattle.std.specs.Prelude.{◌==◌};
 ghost use Rattle.std.proofs.Common.{rules};
-ghost use Rattle.std.specs.Cmp as Keys;
-ghost use Rattle.std.specs.Cmp.{partial_order_from_agreeing_total};
+ghost use Rattle.std.specs.Cmp.{partial_order_from_own_ties};
+ghost use Rattle.std.specs.Cmp.Rules.{comparing};
+ghost use Rattle.std.specs.Ordering.{as_partial_cmp, nat_cmp, on};
 
 use crate::cue::Cue;
 use std::cmp::Ordering;
@@ -15,9 +14,9 @@ pub struct Due {
 }
 
 impl PartialEq for Due {
-    ghost equals = { λ x y r. Decides r (x.cue.deadline ≡ y.cue.deadline) };
+    ghost eq = { on (λ due. due.cue.deadline) ◌==◌ };
 
-    ghost laws = { Keys.partial_equiv_from_equiv (Prim.search (comparing, rules)) };
+    ghost laws = { Prim.search (comparing, rules) };
 
     fn eq(&self, other: &Due) -> bool {
         self.cue.deadline() == other.cue.deadline()
@@ -29,9 +28,9 @@ impl Eq for Due {
 }
 
 impl PartialOrd for Due {
-    ghost partial_cmp = { λ x y. Some (nat_cmp x.cue.deadline y.cue.deadline) };
+    ghost partial_cmp = { as_partial_cmp (on (λ due. due.cue.deadline) nat_cmp) };
 
-    ghost laws = { partial_order_from_agreeing_total (λ x y. nat_cmp x.cue.deadline y.cue.deadline) (Prim.search (comparing, rules)) (λ _ _. refl) (Prim.search (comparing, rules)) };
+    ghost laws = { partial_order_from_own_ties (Prim.search (comparing, rules)) (Prim.search (comparing, rules)) };
 
     fn partial_cmp(&self, other: &Due) -> Option<Ordering> {
         Some(self.cmp(other))
@@ -39,7 +38,7 @@ impl PartialOrd for Due {
 }
 
 impl Ord for Due {
-    ghost cmp = { λ x y. nat_cmp x.cue.deadline y.cue.deadline };
+    ghost cmp = { on (λ due. due.cue.deadline) nat_cmp };
 
     ghost total = { Prim.search (comparing, rules) };
 

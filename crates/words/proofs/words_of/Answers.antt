@@ -10,8 +10,8 @@ loop-left-preserved c =
     let before = vec_items c.loop-left.words in
     let long : 4 ≤ length left = search rules in
     ap (λ rest. vec_items c.push.new.self ++ whole rest) (take_rest left 4)
-    ∙ ap (λ items. items ++ whole (drop 4 left)) c.in-ok-push.ensures.items
-    ∙ append_assoc before (c.from-be-bytes.result ∷ []) (whole (drop 4 left))
-    ∙ ap (λ w. before ++ (w ∷ whole (drop 4 left))) c.from-be-bytes.ensures
+    ∙ ap (λ items. items ++ whole (drop 4 left)) c.in_ok-push.ensures.items
+    ∙ append_assoc before (c.from_be_bytes.result ∷ []) (whole (drop 4 left))
+    ∙ ap (λ w. before ++ (w ∷ whole (drop 4 left))) c.from_be_bytes.ensures
     ∙ ap (λ ws. before ++ ws) (sym (whole-more left long))
     ∙ c.loop-left.invariant

@@ -7,16 +7,16 @@ use Rattle.cues.proofs.loading.best_from.Goals as goal
 
 pub returns : goal.returns
 returns c =
-    let candidates = c.write-candidates.new.candidates in
-    let late = c.first-due-after-late.result in
+    let candidates = c.write_candidates.new.candidates in
+    let late = c.first_due_after-late.result in
     best_from_first c.args.start c.args.dues.now late c.in-Some.place candidates record { demand = 0; length = 0; start = 0; end = 0 }
-    c.first-due-after-late.ensures (omega arith) c.write-candidates.ensures
+    c.first_due_after-late.ensures (omega arith) c.write_candidates.ensures
     (subst (λ xs. First candidate_before candidate_equal xs c.in-Some.place) (take_rest candidates late) c.in-Some.ensures)
 
 pub unreachable-requires : goal.unreachable-requires
 unreachable-requires c =
-    let candidates = c.write-candidates.new.candidates in
-    let late = c.first-due-after-late.result in
+    let candidates = c.write_candidates.new.candidates in
+    let late = c.first_due_after-late.result in
     let none : length (drop late candidates) ≡ 0 = subst (λ xs. length xs ≡ 0) (take_rest candidates late) c.in-None.ensures in
     let later = c.requires.later in
-    omega (arith, none, length-drop late candidates, later.2, later.3, c.first-due-after-late.ensures.over later.0 later.1)
+    omega (arith, none, length-drop late candidates, later.2, later.3, c.first_due_after-late.ensures.over later.0 later.1)

@@ -9,9 +9,9 @@ loop-cue-preserved c =
     let cues = c.args.cues.now in
     let dues = c.args.dues.now in
     let i = c.loop-cue.cue-index in
-    let found = subst (λ n. BestFrom n dues c.best-from.result) c.release.ensures c.best-from.ensures in
-    let more = bests-more cues dues (vec_items c.loop-cue.bests) i c.loop-cue-test.true c.loop-cue.invariant.1 c.cue-item.result c.best-from.result c.cue-item.is found in
-    (omega arith, subst (Bests (take (i + 1) cues) dues) (sym c.in-ok-push.ensures.items) more)
+    let found = subst (λ n. BestFrom n dues c.best_from.result) c.release.ensures c.best_from.ensures in
+    let more = bests-more cues dues (vec_items c.loop-cue.bests) i c.loop-cue-test.true c.loop-cue.invariant.1 c.cue-item.result c.best_from.result c.cue-item.is found in
+    (omega arith, subst (Bests (take (i + 1) cues) dues) (sym c.in_ok-push.ensures.items) more)
 
 pub returns : goal.returns
 returns c =
@@ -19,11 +19,11 @@ returns c =
 
 pub loop-cue-init : goal.loop-cue-init
 loop-cue-init c =
-    let none = c.in-ok-bests.ensures.items in
-    (c.in-ok-candidates.ensures.len, subst (Bests [] c.args.dues.now) (sym none) bests_none)
+    let none = c.in_ok-bests.ensures.items in
+    (c.in_ok-candidates.ensures.len, subst (Bests [] c.args.dues.now) (sym none) bests_none)
 
-pub best-from-requires : goal.best-from-requires
-best-from-requires c =
+pub best_from-requires : goal.best_from-requires
+best_from-requires c =
     record {
       room = omega arith;
       few = c.requires.few;

@@ -8,23 +8,12 @@ use Rattle.cues.specs.declared.due.Due.{Due}
 use Rattle.cues.specs.Candidates.{due_of}
 use Rattle.cues.proofs.loading.sorted_by_deadline.Goals as goal
 
--- The order of deadlines is the order of numbers.
-abbrev by_deadline : IsTotalOrder (λ (x y : Due) (r : Ordering). MatchOrdering r (x.cue.deadline < y.cue.deadline) (x.cue.deadline ≡ y.cue.deadline) (y.cue.deadline < x.cue.deadline))
-by_deadline =
-    record {
-      cmp = λ x y. nat_cmp x.cue.deadline y.cue.deadline;
-      says = λ x y. nat_cmp_total.says x.cue.deadline y.cue.deadline;
-      flip = λ x y. nat_cmp_total.antisymm x.cue.deadline y.cue.deadline;
-      trans = λ x y z. nat_cmp_total.trans x.cue.deadline y.cue.deadline z.cue.deadline;
-      alike = λ x y z. nat_cmp_total.congr x.cue.deadline y.cue.deadline z.cue.deadline;
-    }
-
 pub loop-cue-preserved : goal.loop-cue-preserved
 loop-cue-preserved c =
     let cues = c.args.cues.now in
     let so_far : vec_items c.loop-cue.dues ≡ map due_of (take c.loop-cue.cue-index cues) = c.loop-cue.invariant in
     let more = map_more due_of cues c.loop-cue.cue-index c.cue-item.result c.loop-cue-test.true in
-    let items = c.in-ok-push.ensures.items in
+    let items = c.in_ok-push.ensures.items in
     items ∙ ap (λ xs. xs ++ (due_of c.cue-item.result ∷ [])) so_far ∙ ap (λ x. map due_of (take c.loop-cue.cue-index cues) ++ (due_of x ∷ [])) c.cue-item.is ∙ sym more
 
 pub returns : goal.returns
@@ -33,6 +22,6 @@ returns c =
     let dues = vec_items c.sort.new.self in
     let all : vec_items c.loop-cue.dues ≡ map due_of cues = c.loop-cue.invariant ∙ ap (map due_of) (take_all c.loop-cue.cue-index cues c.loop-cue-test.false) in
     record {
-      same = subst (λ xs. IsPermutation xs dues) all c.sort.ensures.permutation;
-      rising = IsNonDecreasingBy-from_sort (λ due. due.cue.deadline) dues (vec_len c.loop-cue.dues) (omega (arith, c.sort.new.self.ok.0, c.sort.ensures.len)) (c.sort.ensures.sorted by_deadline);
+      same = subst (λ xs. IsPermutation xs dues) all c.in_ok-sort.ensures.permutation;
+      rising = IsNonDecreasingBy-from_sort (λ due. due.cue.deadline) dues c.in_ok-sort.ensures.sorted;
     }

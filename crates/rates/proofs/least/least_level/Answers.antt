@@ -18,27 +18,27 @@ at_the_table table slice remaining ticks answer same found =
     subst (Lowest (rates_of table) remaining ticks) (sym exact) (least-is_lowest (rates_of table) remaining ticks) in
     (exact, lowest, answers_from_lowest (rates_of table) remaining ticks answer (table_is_lawful table) lowest)
 
-pub returns-then-is-enough : goal.returns-then-is-enough
-returns-then-is-enough c =
-    let slice = c.as-slice-rates.result.now in
+pub returns-then-is_enough : goal.returns-then-is_enough
+returns-then-is_enough c =
+    let slice = c.as_slice-rates.result.now in
     let found : Some c.loop-rate.number ≡ least slice c.args.remaining c.args.ticks =
-    sym (least-stops c.loop-rate.number slice c.args.remaining c.args.ticks c.loop-rate.rate-index (omega arith) (sym c.if-is-enough.ensures))
+    sym (least-stops c.loop-rate.number slice c.args.remaining c.args.ticks c.loop-rate.rate-index (omega arith) (sym c.if-is_enough.ensures))
     ∙ c.loop-rate.invariant.1 in
-    let all = at_the_table c.args.table.now slice _ _ _ c.as-slice-rates.ensures.rates found in
+    let all = at_the_table c.args.table.now slice _ _ _ c.as_slice-rates.ensures.rates found in
     record { exact = all.0; meaning = all.2; lowest = all.1 }
 
 pub loop-rate-preserved : goal.loop-rate-preserved
 loop-rate-preserved c = (
   omega (arith, c.loop-rate.invariant.0),
-  sym (least-goes_on c.loop-rate.number c.as-slice-rates.result.now c.args.remaining c.args.ticks c.loop-rate.rate-index (omega arith) (sym c.if-is-enough.ensures))
+  sym (least-goes_on c.loop-rate.number c.as_slice-rates.result.now c.args.remaining c.args.ticks c.loop-rate.rate-index (omega arith) (sym c.if-is_enough.ensures))
       ∙ c.loop-rate.invariant.1,
 )
 
 pub returns : goal.returns
 returns c =
-    let slice = c.as-slice-rates.result.now in
+    let slice = c.as_slice-rates.result.now in
     let found : None ≡ least slice c.args.remaining c.args.ticks =
     sym (at_drop_all (λ left. least_from c.loop-rate.number left c.args.remaining c.args.ticks) slice c.loop-rate.rate-index (omega arith))
     ∙ c.loop-rate.invariant.1 in
-    let all = at_the_table c.args.table.now slice _ _ _ c.as-slice-rates.ensures.rates found in
+    let all = at_the_table c.args.table.now slice _ _ _ c.as_slice-rates.ensures.rates found in
     record { exact = all.0; meaning = all.2; lowest = all.1 }

@@ -6,10 +6,17 @@ use Rattle.rates.proofs.table.RateTable.new.Goals as goal
 pub padded-requires : goal.padded-requires
 padded-requires c = (lawful_when_not_refused _ (sym c.in-None.ensures)).few
 
-pub invariant-of-result : goal.invariant-of-result
-invariant-of-result c =
+pub invariant_of-result : goal.invariant_of-result
+invariant_of-result c =
     let lawful = lawful_when_not_refused c.args.rates.now (sym c.in-None.ensures) in
-    rw c.padded.ensures (search rules, (lawful.some, (lawful.few, (lawful.positive, (lawful.limited, (lawful.rising, tt))))))
+    rw c.padded.ensures (record {
+      places = search rules;
+      some = lawful.some;
+      few = lawful.few;
+      positive = lawful.positive;
+      limited = lawful.limited;
+      rising = lawful.rising;
+    })
 
 pub returns-in-None : goal.returns-in-None
 returns-in-None c =

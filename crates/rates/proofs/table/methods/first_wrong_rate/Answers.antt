@@ -4,13 +4,13 @@ use Rattle.std.proofs.lemmas.Bool.Decides.{nat_tests}
 use Rattle.rates.specs.Judged.{first_wrong}
 use Rattle.rates.proofs.Tables.{first-wrong_stops, first-wrong_goes_on}
 use Rattle.rates.proofs.table.methods.first_wrong_rate.Goals as goal
-use Rattle.rates.proofs.table.methods.first_wrong_rate.Goals.{then-rate-before-via-then-rate-before, then-rate-before-via-else-rate-before+then-rate-gt-HIGHEST-RATE}
+use Rattle.rates.proofs.table.methods.first_wrong_rate.Goals.{then-rate-before-via-then-rate-before, then-rate-before-via-else-rate-before+then-rate-gt-HIGHEST_RATE}
 
 wrong : (c : goal.Joined-then-rate-before) → (ltb c.loop-place.before (get_or c.args.rates.now c.loop-place.place 0) && leb (get_or c.args.rates.now c.loop-place.place 0) 4095) ≡ false
 wrong c =
     elim c.then-rate-before.branch [
       | then-rate-before-via-then-rate-before w ↦ grind (arith, nat_tests)
-      | then-rate-before-via-else-rate-before+then-rate-gt-HIGHEST-RATE w ↦ grind (arith, nat_tests)
+      | then-rate-before-via-else-rate-before+then-rate-gt-HIGHEST_RATE w ↦ grind (arith, nat_tests)
     ]
 
 pub returns-then-rate-before : goal.returns-then-rate-before
