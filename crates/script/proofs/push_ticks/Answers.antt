@@ -10,7 +10,7 @@ pub loop-preserved : goal.loop-preserved
 loop-preserved c =
     let old = vec_items c.args.calls.now in
     let done = c.loop.counter in
-    c.in-ok-push.ensures.items
+    c.in_ok-push.ensures.items
     ∙ ap (λ calls. calls ++ replicate 1 Tick) c.loop.invariant
     ∙ append_assoc old (replicate done Tick) (replicate 1 Tick)
     ∙ ap (λ ticks. old ++ ticks) (replicate_more done Tick)

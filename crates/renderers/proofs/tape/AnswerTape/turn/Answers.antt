@@ -7,4 +7,4 @@ pub returns-in-len1-up : goal.returns-in-len1-up
 returns-in-len1-up c =
     let coming = c.args.self.now.coming.now in
     let some : 1 ≤ length coming = search rules in
-    record { read = (c.answer-of.ensures ∙ next-is_said coming some, take_rest coming 1); noted = refl }
+    record { read = (c.answer_of.ensures ∙ next-is_said coming some, take_rest coming 1); noted = refl }

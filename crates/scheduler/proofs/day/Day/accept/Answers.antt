@@ -10,12 +10,12 @@ use Rattle.scheduler.proofs.KeptPlaces.{good, led_on}
 use Rattle.scheduler.proofs.Runner.{runner-push}
 use Rattle.scheduler.proofs.day.Day.accept.Goals as goal
 
-pub overflow-add-number : goal.overflow-add-number
-overflow-add-number c =
+pub overflow_add-number : goal.overflow_add-number
+overflow_add-number c =
     let day = good c.args.self.now in omega (arith, day.numbers_low, day.budgets_low)
 
-pub invariant-of-self : goal.invariant-of-self
-invariant-of-self c =
+pub invariant_of-self : goal.invariant_of-self
+invariant_of-self c =
     let day = c.args.self.now in
     let js = items day.pending in
     let job : ℕ → Job =

@@ -5,8 +5,8 @@ use Rattle.scheduler.specs.Day.{paced}
 use Rattle.scheduler.proofs.KeptPlaces.{good}
 use Rattle.scheduler.proofs.day.Day.bound_of.Goals as goal
 
-pub overflow-add-result : goal.overflow-add-result
-overflow-add-result c =
+pub overflow_add-result : goal.overflow_add-result
+overflow_add-result c =
     let day = c.args.self.now in
     let held : Stage → Type 0 = λ stage. BoundsHold day.clock (day.clock + day.budgets) (paced stage) in
     let bounds = subst held c.in-Aside.is c.requires.bounds in

@@ -8,8 +8,8 @@ use Rattle.scheduler.proofs.day.Day.choose.Goals as goal
 pub get-job-requires : goal.get-job-requires
 get-job-requires g c = kept_within c.args.self.now c.requires
 
-pub going-on-requires : goal.going-on-requires
-going-on-requires g c =
+pub going_on-requires : goal.going_on-requires
+going_on-requires g c =
     (kept_first c.args.self.now c.get-job.result c.requires c.get-job.ensures, c.in-Running.is)
 
 pub switching-requires : goal.switching-requires

@@ -6,8 +6,8 @@ use Rattle.scheduler.proofs.KeptPlaces.{good, kept_runner}
 use Rattle.scheduler.proofs.Settled.{chosen-within, others-as-many, ended, ended-reached, ended-first, ended-runs}
 use Rattle.scheduler.proofs.day.Day.end.Goals as goal
 
-pub make-way-requires : goal.make-way-requires
-make-way-requires c = (kept_runner c.args.self.now, (good c.args.self.now).one_runs)
+pub make_way-requires : goal.make_way-requires
+make_way-requires c = (kept_runner c.args.self.now, (good c.args.self.now).one_runs)
 
 pub remove-requires : goal.remove-requires
 remove-requires c =
@@ -16,8 +16,8 @@ remove-requires c =
     omega
     (arith, ap length c.make_way.ensures, others-as-many day chosen c.requires.chosen c.requires.early, chosen-within day chosen c.requires.chosen c.requires.early)
 
-pub invariant-of-self : goal.invariant-of-self
-invariant-of-self c =
+pub invariant_of-self : goal.invariant_of-self
+invariant_of-self c =
     let day = c.args.self.now in
     let chosen = c.args.chosen.now in
     let pending = items c.remove.new.self in

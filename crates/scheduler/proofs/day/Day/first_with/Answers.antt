@@ -10,19 +10,19 @@ get-first-requires c =
     let some : 0 < length (items c.args.self.now.pending) = grind (arith, nat_tests) in
     kept_within c.args.self.now some
 
-pub returns-then-is-before : goal.returns-then-is-before
-returns-then-is-before c =
+pub returns-then-is_before : goal.returns-then-is_before
+returns-then-is_before c =
     let day = c.args.self.now in
     let some : 0 < length (items day.pending) = grind (arith, nat_tests) in
     c.len.ensures
     ∙ sym
     (kept_first_push day c.args.job.now c.get-first.result c.requires some c.get-first.ensures
-    ∙ cond-true _ _ _ (sym c.if-is-before.ensures))
+    ∙ cond-true _ _ _ (sym c.if-is_before.ensures))
 
-pub returns-else-is-before : goal.returns-else-is-before
-returns-else-is-before c =
+pub returns-else-is_before : goal.returns-else-is_before
+returns-else-is_before c =
     let day = c.args.self.now in
     let some : 0 < length (items day.pending) = grind (arith, nat_tests) in
     sym
     (kept_first_push day c.args.job.now c.get-first.result c.requires some c.get-first.ensures
-    ∙ cond-false _ _ _ (sym c.if-is-before.ensures))
+    ∙ cond-false _ _ _ (sym c.if-is_before.ensures))

@@ -6,8 +6,8 @@ use Rattle.scheduler.proofs.KeptPlaces.{good, kept_runner}
 use Rattle.scheduler.proofs.Settled.{chosen-within, others-as-many, gone-on, gone-on-reached, gone-on-first, gone-on-runs}
 use Rattle.scheduler.proofs.day.Day.go_on.Goals as goal
 
-pub make-way-requires : goal.make-way-requires
-make-way-requires c = (kept_runner c.args.self.now, (good c.args.self.now).one_runs)
+pub make_way-requires : goal.make_way-requires
+make_way-requires c = (kept_runner c.args.self.now, (good c.args.self.now).one_runs)
 
 pub set-requires : goal.set-requires
 set-requires c =
@@ -16,15 +16,15 @@ set-requires c =
     omega
     (arith, ap length c.make_way.ensures, others-as-many day chosen c.requires.chosen c.requires.early, chosen-within day chosen c.requires.chosen c.requires.early)
 
-pub invariant-of-self : goal.invariant-of-self
-invariant-of-self c =
+pub invariant_of-self : goal.invariant_of-self
+invariant_of-self c =
     let day = c.args.self.now in
     let chosen = c.args.chosen.now in
     let pending = items c.set.new.self in
     let job = run_on chosen.job chosen.bound chosen.level chosen.rate in
     let is =
     c.set.ensures
-    ∙ ap (λ (j : Job). set (items c.make_way.new.pending) day.first j) c.run-on.ensures
+    ∙ ap (λ (j : Job). set (items c.make_way.new.pending) day.first j) c.run_on.ensures
     ∙ ap (λ (ks : List Job). set ks day.first job) c.make_way.ensures in (
       gone-on-reached day chosen c.requires.chosen c.requires.early pending c.requires.more is,
       (
@@ -40,6 +40,6 @@ returns c =
     let job = run_on chosen.job chosen.bound chosen.level chosen.rate in
     let is =
     c.set.ensures
-    ∙ ap (λ (j : Job). set (items c.make_way.new.pending) day.first j) c.run-on.ensures
+    ∙ ap (λ (j : Job). set (items c.make_way.new.pending) day.first j) c.run_on.ensures
     ∙ ap (λ (ks : List Job). set ks day.first job) c.make_way.ensures in
     sym (gone-on day chosen c.requires.chosen c.requires.early (items c.set.new.self) c.requires.more is)

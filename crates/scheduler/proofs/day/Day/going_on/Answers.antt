@@ -9,8 +9,8 @@ use Rattle.runs.specs.SlowRun as slow
 use Rattle.scheduler.proofs.KeptPlaces.{first_good}
 use Rattle.scheduler.proofs.day.Day.going_on.Goals as goal
 
-pub rate-of-requires : goal.rate-of-requires
-rate-of-requires c =
+pub rate_of-requires : goal.rate_of-requires
+rate_of-requires c =
     let day = c.args.self.now in
     let job = c.args.job in
     let pace : Stage → Type 0 = OnPace (rates_of day.table) day.clock job.remaining in

@@ -7,8 +7,8 @@ use Rattle.scheduler.specs.Pending.{items}
 use Rattle.scheduler.proofs.KeptPlaces.{led_on}
 use Rattle.scheduler.proofs.day.Day.idle.Goals as goal
 
-pub invariant-of-self : goal.invariant-of-self
-invariant-of-self c =
+pub invariant_of-self : goal.invariant_of-self
+invariant_of-self c =
     let day = c.args.self.now in
     let none = nil_from_length (items day.pending) c.requires.0 in (
       led_on day (passed Idle) _ (cond-true _ _ _ (lt-ltb day.clock 134217727 c.requires.1), ap first_job none) refl,

@@ -7,8 +7,8 @@ use Rattle.scheduler.specs.Places.{first_place, runner_place}
 use Rattle.scheduler.proofs.DayGood.{reached_opened}
 use Rattle.scheduler.proofs.day.Day.open.Goals as goal
 
-pub invariant-of-result : goal.invariant-of-result
-invariant-of-result g c =
+pub invariant_of-result : goal.invariant_of-result
+invariant_of-result g c =
     let none = sym c.none.ensures in
     let fresh : List Job → Type 0 =
     λ js.

@@ -7,11 +7,11 @@ use Rattle.scheduler.proofs.KeptPlaces.{good}
 use Rattle.scheduler.proofs.Refines.{acceptable}
 use Rattle.scheduler.proofs.day.Day.release.Goals as goal
 
-pub record-release-requires : goal.record-release-requires
-record-release-requires g c =
+pub record_release-requires : goal.record_release-requires
+record_release-requires g c =
     let day = c.args.self.now in
     let refusal = release_refusal (model day) c.args.deadline c.args.budget in
-    let granted = nothing_else_refused (g.T.Trace.page c.args.trace.now) call_words refusal (sym c.in-ok-check-release.ensures) in
+    let granted = nothing_else_refused (g.T.Trace.page c.args.trace.now) call_words refusal (sym c.in_ok-check_release.ensures) in
     let job = acceptable (model day) c.args.deadline c.args.budget granted in (
       omega (arith, c.accept-number.ensures.number, (good day).numbers_low, (good day).budgets_low),
       (omega (arith, job.small_deadline), omega (arith, job.small_budget)),

@@ -26,14 +26,14 @@ free_from_low : (d : Day) (j : Job) → free_from (model d) j ≤ d.clock + d.bu
 free_from_low d j =
     cond_both _ d.clock d.handed_bound (λ n. n ≤ d.clock + d.budgets) (λ _. omega arith) (λ _. (good d).handed_low)
 
-pub overflow-add-result : goal.overflow-add-result
-overflow-add-result c = omega (arith, (good c.args.self.now).clock_low)
+pub overflow_add-result : goal.overflow_add-result
+overflow_add-result c = omega (arith, (good c.args.self.now).clock_low)
 
-pub returns-then-is-some : goal.returns-then-is-some
-returns-then-is-some c = sym (starting c.args.self.now c.args.job.now true c.if-is-some.ensures)
+pub returns-then-is_some : goal.returns-then-is_some
+returns-then-is_some c = sym (starting c.args.self.now c.args.job.now true c.if-is_some.ensures)
 
-pub overflow-add-result-2 : goal.overflow-add-result-2
-overflow-add-result-2 c =
+pub overflow_add-result-2 : goal.overflow_add-result-2
+overflow_add-result-2 c =
     let day = c.args.self.now in
     omega (arith, c.free_from.ensures, free_from_low day c.args.job.now, (good day).clock_low, (good day).budgets_low)
 
@@ -43,4 +43,4 @@ returns c =
     let job = c.args.job.now in
     ap (λ n. n + job.budget) c.free_from.ensures
     ∙ counted _ day.clock day.handed_bound job.budget
-    ∙ sym (starting day job false c.if-is-some.ensures)
+    ∙ sym (starting day job false c.if-is_some.ensures)

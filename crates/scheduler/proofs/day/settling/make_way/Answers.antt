@@ -20,13 +20,13 @@ returns-in-Some c =
     (λ (stage : Stage).
     set js place
     (record { number = job.number; deadline = job.deadline; budget = job.budget; remaining = job.remaining; stage = stage }))
-    c.set-aside-job.ensures
+    c.set_aside-job.ensures
     ∙ sym
-    (make_way_one c.args.chosen.now c.args.clock js place job (sym c.if-is-running.ensures) c.requires.1
+    (make_way_one c.args.chosen.now c.args.clock js place job (sym c.if-is_running.ensures) c.requires.1
     (c.requires.0 ∙ c.in-Some.is) c.get-job.ensures)
 
-pub returns-in-default : goal.returns-in-default
-returns-in-default c =
+pub returns-in_default : goal.returns-in_default
+returns-in_default c =
     sym
-    (make_way_none c.args.chosen.now c.args.clock (items c.args.pending.now) (sym c.if-is-running.ensures)
+    (make_way_none c.args.chosen.now c.args.clock (items c.args.pending.now) (sym c.if-is_running.ensures)
     (c.requires.0 ∙ c.in-default.is))

@@ -7,5 +7,5 @@ pub returns : goal.returns
 returns c =
     let self = c.args.self.now in
     let count = length-take-le self.count self.jobs (omega arith) in
-    ap (take (self.count - 1)) c.copy-within.ensures.after
+    ap (take (self.count - 1)) c.copy_within.ensures.after
     ∙ front-removed self.count self.jobs c.args.place (omega arith) (omega arith)

@@ -15,11 +15,11 @@ spaced-more ns i within = sym (ap spaced (take_more ns i 0 within) ∙ spaced-pu
 pub loop-rate-preserved : goal.loop-rate-preserved
 loop-rate-preserved g c = λ plain.
     let before = c.loop-rate.invariant plain in
-    let more = c.in-ok-write-2.ensures.shows before.plain refl in
-    has_written_of_eq g.W.Write.write_str_gives _ _ _ _ (spaced-more c.as-slice-rate-items.result.now c.loop-rate.rate-index c.loop-rate-test.true) (has_written_append g.W.Write.write_str_gives _ _ _ _ _ before more)
+    let more = c.in_ok-write-2.ensures.writes before.plain refl in
+    has_written_of_eq g.W.Write.write_str_gives _ _ _ _ (spaced-more c.as_slice-rate-items.result.now c.loop-rate.rate-index c.loop-rate-test.true) (has_written_append g.W.Write.write_str_gives _ _ _ _ _ before more)
 
 pub returns-clause-writes : goal.returns-clause-writes
 returns-clause-writes g c = λ plain ok.
-    let word = c.in-ok-write.ensures.shows plain refl in
+    let word = c.in_ok-write.ensures.writes plain refl in
     let rates = c.loop-rate.invariant word.plain in
-    has_written_of_eq g.W.Write.write_str_gives _ _ _ _ (ap (λ ns. codes "rates" ++ spaced ns) (take_all _ _ c.loop-rate-test.false ∙ c.as-slice-rate-items.ensures.rates)) (has_written_append g.W.Write.write_str_gives _ _ _ _ _ word rates)
+    has_written_of_eq g.W.Write.write_str_gives _ _ _ _ (ap (λ ns. codes "rates" ++ spaced ns) (take_all _ _ c.loop-rate-test.false ∙ c.as_slice-rate-items.ensures.rates)) (has_written_append g.W.Write.write_str_gives _ _ _ _ _ word rates)
