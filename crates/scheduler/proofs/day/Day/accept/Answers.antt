@@ -39,10 +39,9 @@ invariant_of-self c =
       pending = pending;
       handed_bound = day.handed_bound;
       handed_deadline = day.handed_deadline;
-    } in (
-      led_on day (arrived c.args.deadline c.args.budget) _ c.requires (ap state (sym pushed)),
-      (
-        c.first-with-first.ensures ∙ ap first_place (sym c.push.ensures),
-        (day.running_holds ∙ ap option_to_list (sym (ap runner_place pushed ∙ runner-push js _ refl)), tt),
-      ),
-    )
+    } in
+    record {
+      reached = led_on day (arrived c.args.deadline c.args.budget) _ c.requires (ap state (sym pushed));
+      first_holds = c.first_with-first.ensures ∙ ap first_place (sym c.push.ensures);
+      running_holds = day.running_holds ∙ ap option_to_list (sym (ap runner_place pushed ∙ runner-push js _ refl));
+    }

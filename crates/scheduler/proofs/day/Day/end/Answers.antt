@@ -21,15 +21,15 @@ invariant_of-self c =
     let day = c.args.self.now in
     let chosen = c.args.chosen.now in
     let pending = items c.remove.new.self in
-    let is = c.remove.ensures ∙ ap (λ (ks : List Job). remove ks day.first) c.make_way.ensures in (
-      ended-reached day chosen c.requires.chosen c.requires.early pending is,
-      (
-        c.unwrap-or-self.ensures
-            ∙ ended-first day chosen c.requires.chosen c.requires.early pending is c.as-slice.result.now c.first-of.result c.as-slice.ensures
-            c.first-of.ensures,
-        (ended-runs day chosen c.requires.chosen c.requires.early pending is, tt),
-      ),
-    )
+    let is = c.remove.ensures ∙ ap (λ (ks : List Job). remove ks day.first) c.make_way.ensures in
+    record {
+      reached = ended-reached day chosen c.requires.chosen c.requires.early pending is;
+      first_holds =
+          c.unwrap_or-self.ensures
+          ∙ ended-first day chosen c.requires.chosen c.requires.early pending is c.as_slice.result.now c.first_of.result c.as_slice.ensures
+          c.first_of.ensures;
+      running_holds = ended-runs day chosen c.requires.chosen c.requires.early pending is;
+    }
 
 pub returns : goal.returns
 returns c =

@@ -25,13 +25,12 @@ invariant_of-self c =
     let is =
     c.set.ensures
     ∙ ap (λ (j : Job). set (items c.make_way.new.pending) day.first j) c.run_on.ensures
-    ∙ ap (λ (ks : List Job). set ks day.first job) c.make_way.ensures in (
-      gone-on-reached day chosen c.requires.chosen c.requires.early pending c.requires.more is,
-      (
-        gone-on-first day chosen c.requires.chosen c.requires.early pending c.requires.more is,
-        (gone-on-runs day chosen c.requires.chosen c.requires.early pending c.requires.more is, tt),
-      ),
-    )
+    ∙ ap (λ (ks : List Job). set ks day.first job) c.make_way.ensures in
+    record {
+      reached = gone-on-reached day chosen c.requires.chosen c.requires.early pending c.requires.more is;
+      first_holds = gone-on-first day chosen c.requires.chosen c.requires.early pending c.requires.more is;
+      running_holds = gone-on-runs day chosen c.requires.chosen c.requires.early pending c.requires.more is;
+    }
 
 pub returns : goal.returns
 returns c =

@@ -10,7 +10,9 @@ use Rattle.scheduler.proofs.day.Day.idle.Goals as goal
 pub invariant_of-self : goal.invariant_of-self
 invariant_of-self c =
     let day = c.args.self.now in
-    let none = nil_from_length (items day.pending) c.requires.0 in (
-      led_on day (passed Idle) _ (cond-true _ _ _ (lt-ltb day.clock 134217727 c.requires.1), ap first_job none) refl,
-      (day.first_holds, (day.running_holds, tt)),
-    )
+    let none = nil_from_length (items day.pending) c.requires.0 in
+    record {
+      reached = led_on day (passed Idle) _ (cond-true _ _ _ (lt-ltb day.clock 134217727 c.requires.1), ap first_job none) refl;
+      first_holds = day.first_holds;
+      running_holds = day.running_holds;
+    }

@@ -23,7 +23,9 @@ invariant_of-result g c =
       handed_bound = 0;
       handed_deadline = 0;
     })
-    ∥₁ in (
-      subst fresh none ∣ reached_opened (rates_of c.args.table) ∣₁,
-      (ap first_place none, (ap (λ js. option_to_list (runner_place js)) none, tt)),
-    )
+    ∥₁ in
+    record {
+      reached = subst fresh none ∣ reached_opened (rates_of c.args.table) ∣₁;
+      first_holds = ap first_place none;
+      running_holds = ap (λ js. option_to_list (runner_place js)) none;
+    }

@@ -29,4 +29,4 @@ pub returns-in_default : goal.returns-in_default
 returns-in_default c =
     sym
     (make_way_none c.args.chosen.now c.args.clock (items c.args.pending.now) (sym c.if-is_running.ensures)
-    (c.requires.0 ∙ c.in-default.is))
+    (c.requires.0 ∙ c.in_default.is))
