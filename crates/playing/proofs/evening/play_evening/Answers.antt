@@ -14,7 +14,7 @@ returns-in-Ok g c =
     let marks = evening_marks (rates_of c.args.table) c.args.calls.now (vec_items c.in-Ok.played.replies) c.clock-clock.result in
     let back = given_back c.close.new.trace marks c.over-trace.ensures (evening-marked _ _ _ _ _ _ _ _ _ _ plays closed c.close.ensures.trace) in
     let given : _ ≡ c.close.new.trace.words.now = search rules in
-    record { day = evening-recorded _ _ _ c.args.words.now _ _ _ _ _ _ _ _ _ c.over-trace.ensures plays closed (given ∙ back.1) (c.into-written.ensures.count ∙ back.2); policy = done.policy; renderer = done.renderer }
+    record { day = evening-recorded _ _ _ c.args.words.now _ _ _ _ _ _ _ _ _ c.over-trace.ensures plays closed (given ∙ back.1) (c.into_written.ensures.count ∙ back.2); policy = done.policy; renderer = done.renderer }
 
 pub returns-in-Err : goal.returns-in-Err
 returns-in-Err g c =

@@ -14,13 +14,13 @@ answered replies place counted = sym replies.ok.0 ∙ counted
 
 pub loop-call-init : goal.loop-call-init
 loop-call-init g c =
-    let room = c.in-Ok.ensures.made in
-    (omega arith, room.1.0, room.1.1, record { so_far = record { right = tt; after = refl; asked = refl }; asked = refl; run = refl })
+    let room = c.in-Ok.ensures in
+    (omega arith, room.len, room.capacity, record { so_far = record { right = tt; after = refl; asked = refl }; asked = refl; run = refl })
 
 pub unreachable-requires : goal.unreachable-requires
-unreachable-requires g c no_room =
+unreachable-requires g c =
     let kept : is_ok c.push.result ≡ true = c.push.ensures.succeeds (omega (arith, c.loop-call.invariant.1, c.loop-call.invariant.2, c.loop-call-test.true)) in
-    let lost : is_ok c.push.result ≡ not true = c.is-err.ensures.negation ∙ ap not c.if-is-err.true in
+    let lost : is_ok c.push.result ≡ not true = c.is_err.ensures.negation ∙ ap not c.if-is_err.true in
     let never : ◌≡◌ {A = ℕ} 0 1 = cc in
     omega arith
 
