@@ -1,6 +1,8 @@
 //! What can be wrong with a sheet, in layers: a fault of a word becomes the fault of a cue, and that the fault of the
 //! sheet. Each layer adds its place and holds the lower fault whole. A fault is told by its layer, its number and its
 //! place.
+#![tactic(auto)]
+
 ghost use Rattle.std.specs.Prelude.{◌≡◌};
 ghost use Rattle.faults.specs.declared.CueFault.TheVariants.{BadWord as cue_word, Refused as cue_refused};
 ghost use Rattle.faults.specs.declared.SheetFault.TheVariants.{BadWord as sheet_word, BadCue, BadTable};

@@ -1,5 +1,7 @@
 //! The head of a file: every file of words begins with its edition, which is 1, and then has a word for each rate. What
 //! stands behind the rates is left to whoever reads the file.
+#![tactic(auto)]
+
 ghost use Rattle.std.specs.Prelude.{◌≡◌, ◌+◌, ◌≤◌, length, IfOk};
 ghost use Rattle.heading.specs.declared.HeadError.TheVariants.{FirstWord, NoMemory};
 ghost use Rattle.heading.specs.Heads.{Edition, Rates, ReadAs};

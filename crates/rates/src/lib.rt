@@ -1,5 +1,6 @@
 //! The speeds that the box can run at, and the policies that pick one. A [`RateTable`] lists the rates, one a
 //! level; a [`Policy`] answers with a level that is fast enough for the work that remains.
+#![tactic(auto)]
 
 mod floor;
 mod least;

@@ -1,6 +1,7 @@
 //! Renderers: whoever plays a job, one tick at a request. A [`Renderer`](renderer::Renderer) is known by what it was asked
 //! for and what it answered. Two are supplied: [`SheetRenderer`](sheet::SheetRenderer) plays the cues of a list, and
 //! [`AnswerTape`](tape::AnswerTape) answers what a tape of words says.
+#![tactic(auto)]
 
 pub mod answer;
 pub mod heard;

@@ -1,6 +1,8 @@
 //! A script: the rates of a table, the calls of a day and the answers of a renderer, as words. Edition 1 comes first,
 //! then a word for each rate. A deadline with its budget is a release, and a word of ticks stands for so many of them.
 //! The end word counts the words of the answer tape, which follow it and are the last.
+#![tactic(auto)]
+
 ghost use Rattle.std.specs.Prelude.{◌≡◌, ◌+◌, ◌^◌, ◌<◌, ◌≤◌, ◌++◌, length, replicate, IfOk, Ok, Err};
 ghost use Rattle.calls.specs.declared.call.Call.TheVariants.{Tick};
 ghost use Rattle.script.specs.declared.ScriptError.TheVariants.{NoMemory};

@@ -5,8 +5,8 @@ ghost use Rattle.sheet.specs.Sheets.{jobs};
 
 mod methods;
 
-use faults::SheetFault;
 use crate::read::ReadSheet;
+use faults::SheetFault;
 
 /// A sheet that was admitted. Nothing but [`ReadSheet::admit`] makes one.
 #[derive(Drop)]

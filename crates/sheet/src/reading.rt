@@ -2,13 +2,13 @@
 ghost use Rattle.std.specs.Prelude.{◌≡◌, ◌+◌, ◌^◌, ◌<◌, ◌≤◌, [], length, drop, IfOk, Some, None, Ok, Err};
 ghost use Rattle.sheet.specs.Parts.{CueWords, NextCue, EndWord, Cues, Added, not_added, entries_of, CueAt, EndAt, Rates, Judged, Table, Edition, Whole};
 
-use faults::{CueFault, ReadError, SheetFault};
-use words::fault::WordFault;
 use cues::cue::Cue;
 use cues::list::CueList;
 use cues::refusal::ListRefusal;
+use faults::{CueFault, ReadError, SheetFault};
 use rates::RateTable;
 use std::alloc::{AllocError, Global};
+use words::fault::WordFault;
 use words::{Kind, is_kind, payload_of};
 
 /// The payloads of the four words of a cue, the first at `place`; the first word that is wrong or missing is the fault.

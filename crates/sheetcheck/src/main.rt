@@ -1,5 +1,7 @@
 //! Reads a cue sheet from standard input and tells what it holds, how much it demands and whether it is admitted; or
 //! the one fault that keeps it from being read.
+#![tactic(auto)]
+
 mod report;
 #[cfg(test)]
 mod tests;

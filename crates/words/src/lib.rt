@@ -1,5 +1,7 @@
 //! Words of 32 bits, as sheets and traces are made of: the top four bits are the kind, the rest is the payload.
 //! In files a word is four bytes, the highest first.
+#![tactic(auto)]
+
 ghost use Rattle.std.specs.Prelude.{◌≡◌, ◌/◌, ◌%◌, ◌^◌, IfOk};
 ghost use Rattle.words.specs.Words.{number, is, payload, whole};
 

@@ -7,9 +7,9 @@ ghost use Rattle.sheet.specs.Sheets.{jobs};
 ghost use Rattle.sheet.specs.Admission.{Admission, Overload};
 
 use super::{AdmittedSheet, NotAdmitted};
-use faults::SheetFault;
 use crate::read::ReadSheet;
 use cues::cue::Cue;
+use faults::SheetFault;
 use rates::RateTable;
 use std::alloc::{AllocError, Global};
 

@@ -5,12 +5,12 @@ ghost use Rattle.sheet.specs.Sheets.{ReadAs, ReadBytesAs, Placed, end_place, job
 ghost use Rattle.sheet.specs.SheetWords.{Written, WrittenBytes};
 
 use super::ReadSheet;
-use faults::{ReadError, SheetFault};
-use words::fault::WordFault;
 use crate::reading::read_words;
 use cues::list::CueList;
+use faults::{ReadError, SheetFault};
 use rates::RateTable;
 use std::alloc::{AllocError, Global};
+use words::fault::WordFault;
 use words::words_of;
 
 impl ReadSheet {
