@@ -1,5 +1,7 @@
 //! What programs in other languages may call. Numbers pass as themselves, bytes as a pointer and a length, and the
 //! allocator takes no bytes.
+#![tactic(auto)]
+
 ghost use Rattle.boundary.specs.Rounds.{Found, Told};
 
 mod ticks;

@@ -1,5 +1,7 @@
 //! Rehearses the calls of a day: reads a script from standard input, plays it, and tells what each call answered and the
 //! trace of the day; or where the script is wrong, or why its rates make no table.
+#![tactic(auto)]
+
 mod line;
 mod rehearsal;
 #[cfg(test)]

@@ -8,7 +8,6 @@ use Rattle.calls.specs.declared.call.Reply.TheVariants.{Released, Ticked as tick
 use Rattle.calls.specs.declared.ticked.Ticked.{Ticked}
 use Rattle.calls.specs.declared.ticked.Ticked.TheVariants.{Idle, Ran as ran}
 use Rattle.scheduler.specs.Day.{tick_refusal}
-use Rattle.scheduler.specs.Marks.{call_words}
 use Rattle.scheduler.specs.Law.{Exchange}
 use Rattle.playing.specs.Played.{Recorded, Right, next, AllRight, heard_reply, heard_all, busy_tick, busy_reply, busy}
 use Rattle.scheduler.proofs.Accepting.{nothing_else_refused}
@@ -58,7 +57,7 @@ clock_rises s Tick (Released number) right low = absurd right
 clock_rises s Tick (ticked_reply t) right low =
     let one = at_most_one t in
     let later = clock_ticked s.day t right.1 in
-    let early = ticks s.day (nothing_else_refused s.page call_words (tick_refusal s.day) right.0) in
+    let early = ticks s.day (nothing_else_refused s.page 10 (tick_refusal s.day) right.0) in
     (omega arith, omega arith)
 clock_rises s Tick (Refused refusal) right low = (omega arith, low)
 

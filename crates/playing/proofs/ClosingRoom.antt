@@ -17,7 +17,7 @@ use Rattle.calls.specs.declared.ticked.Switch.{Switch}
 use Rattle.calls.specs.declared.ticked.Ending.{Ending}
 use Rattle.calls.specs.declared.ticked.Ending.TheVariants as ending
 use Rattle.scheduler.specs.Day.{release_refusal, tick_refusal}
-use Rattle.scheduler.specs.Marks.{call_words, or_no_room, opening_marks, release_marks, aside_marks, switch_marks, ending_marks, tick_marks}
+use Rattle.scheduler.specs.Marks.{or_no_room, opening_marks, release_marks, aside_marks, switch_marks, ending_marks, tick_marks}
 use Rattle.scheduler.specs.Outcomes.{opening_refusal}
 use Rattle.scheduler.specs.Law.{Exchange}
 use Rattle.playing.specs.Played.{Recorded, Right, next, AllRight, played}
@@ -62,13 +62,13 @@ few_in_tick (ran r) =
 
 one_call : (s : Recorded) (call : Call) (reply : Reply) → Right s call reply → Closable s.page → Closable (next s call reply).page
 one_call s (Release deadline budget) (Released number) right before =
-    left_over s.page (release_marks number deadline budget) call_words (omega arith) (granted_room s.page call_words (release_refusal s.day deadline budget) right.0)
+    left_over s.page (release_marks (s.day.accepted + 1) deadline budget) 10 (omega arith) (granted_room s.page 10 (release_refusal s.day deadline budget) right.0)
 one_call s (Release deadline budget) (ticked_reply t) right before = before
 one_call s (Release deadline budget) (Refused refusal) right before = before
 one_call s Tick (Released number) right before = before
 one_call s Tick (ticked_reply t) right before =
     let few = few_in_tick t in
-    left_over s.page (tick_marks t) call_words (omega arith) (granted_room s.page call_words (tick_refusal s.day) right.0)
+    left_over s.page (tick_marks t) 10 (omega arith) (granted_room s.page 10 (tick_refusal s.day) right.0)
 one_call s Tick (Refused refusal) right before = before
 
 -- So closing always fits, after any list of calls.

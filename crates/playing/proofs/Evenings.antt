@@ -29,7 +29,7 @@ evening-marked rates calls replies page page' page'' h h' day clock plays told e
     let xs = exchanges calls replies in
     let opened = marked_all page (opening_marks rates) in
     end
-    ∙ ap (λ (p : Page). marked_all p (closing_marks day.clock)) (ap (λ r. r.page) plays.so_far.after ∙ marks-of_calls (opened_on rates page) xs)
+    ∙ ap (λ (p : Page). marked_all p (closing_marks day.clock)) (ap (λ r. r.page) plays.so_far.after ∙ marks-of_calls (opened_on rates page) xs plays.so_far.right)
     ∙ ap (λ c. marked_all (marked_all opened (all_marks xs)) (closing_marks c)) (sym told)
     ∙ sym (marked_all-append opened (all_marks xs) (closing_marks clock))
     ∙ sym (marked_all-append page (opening_marks rates) (all_marks xs ++ closing_marks clock))

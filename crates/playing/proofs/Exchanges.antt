@@ -13,7 +13,6 @@ use Rattle.runs.specs.ReferenceRun as reference
 use Rattle.runs.specs.NeverBehind.{accepted}
 use Rattle.runs.specs.Deadlines as deadlines
 use Rattle.scheduler.specs.Day.{DayState, first_job, after_chosen, after_tick, ToldChosen, Told, Event, arrived, passed, after, after_all, AllPossible}
-use Rattle.scheduler.specs.Marks.{call_words}
 use Rattle.scheduler.specs.Law.{Exchange, accepted_call, and_then, accepted_calls, or_else, end_told, bound_told, clock_past, end_from, last_bound, bound_set}
 use Rattle.playing.specs.Played.{Recorded, Right, next, AllRight, played}
 use Rattle.scheduler.proofs.Accepting.{nothing_else_refused}
@@ -39,11 +38,11 @@ possible_first :
     → Right s call reply
     → AllPossible (next s call reply).day es
     → AllPossible s.day (with_event call reply es)
-possible_first s (Release deadline budget) (Released number) es r p = (nothing_else_refused s.page call_words _ r.0, p)
+possible_first s (Release deadline budget) (Released number) es r p = (nothing_else_refused s.page 10 _ r.0, p)
 possible_first s (Release deadline budget) (ticked_reply t) es r p = absurd r
 possible_first s (Release deadline budget) (Refused refusal) es r p = p
 possible_first s Tick (Released number) es r p = absurd r
-possible_first s Tick (ticked_reply t) es r p = ((nothing_else_refused s.page call_words _ r.0, r.1), p)
+possible_first s Tick (ticked_reply t) es r p = ((nothing_else_refused s.page 10 _ r.0, r.1), p)
 possible_first s Tick (Refused refusal) es r p = p
 
 pub right_possible : (s : Recorded) (xs : List Exchange) → AllRight s xs → AllPossible s.day (events_of xs)

@@ -6,11 +6,13 @@ use Rattle.recorder.specs.Page.{Page, marked_all}
 use Rattle.renderers.specs.declared.answer.Answer.{Answer}
 use Rattle.renderers.specs.declared.heard.Heard.{Heard}
 use Rattle.calls.specs.declared.call.Call.{Call}
+use Rattle.calls.specs.declared.call.Call.TheVariants.{Release, Tick}
 use Rattle.calls.specs.declared.call.Reply.{Reply}
+use Rattle.calls.specs.declared.call.Reply.TheVariants.{Released, Ticked as ticked_reply, Refused}
 use Rattle.scheduler.specs.Day.{DayState, opened}
 use Rattle.scheduler.specs.Marks.{opening_marks}
 use Rattle.scheduler.specs.Law.{Exchange, Safe}
-use Rattle.playing.specs.Played.{Recorded, Right, next, AllRight, played, heard_reply, heard_all}
+use Rattle.playing.specs.Played.{Recorded, Right, next, next_day, AllRight, played, heard_reply, heard_all}
 use Rattle.playing.specs.Exchanges.{exchanges, opened_on, Closable, Answered, AskedIn, AskedThrough, RunIn, RunThrough, SoFar, Plays}
 use Rattle.scheduler.specs.Outcomes.{opening_refusal}
 use Rattle.playing.proofs.ClosingRoom.{closable_after, closable_opened}
@@ -29,6 +31,15 @@ heard-push : (h : Heard) (xs : List Exchange) (x : Exchange) → heard_all h (xs
 heard-push h [] x = refl
 heard-push h (y ∷ xs) x = heard-push (heard_reply h y.1) xs x
 
+-- The day after a call and its answer, with the trace or without.
+next-day : (s : Recorded) (call : Call) (reply : Reply) → (next s call reply).day ≡ next_day s.day call reply
+next-day s (Release deadline budget) (Released number) = refl
+next-day s (Release deadline budget) (ticked_reply t) = refl
+next-day s (Release deadline budget) (Refused refusal) = refl
+next-day s Tick (Released number) = refl
+next-day s Tick (ticked_reply t) = refl
+next-day s Tick (Refused refusal) = refl
+
 asked_push :
     {P : Type 0} (tells : P → List ℕ → ℕ → ℕ → Option ℕ → P → Type 0) (s : Recorded) (xs : List Exchange) (x : Exchange) (p p' p'' : P)
     → AskedThrough tells s.day xs p p'
@@ -36,7 +47,9 @@ asked_push :
     → AskedThrough tells s.day (xs ++ (x ∷ [])) p p''
 asked_push tells s [] x p p' p'' same one = (p'', subst (λ q. AskedIn tells s.day x.1 q p'') same one, refl)
 asked_push tells s (y ∷ xs) x p p' p'' (q, first, rest) one =
-    (q, first, asked_push tells (next s y.0 y.1) xs x q p' p'' rest one)
+    let day = next-day s y.0 y.1 in
+    let more = asked_push tells (next s y.0 y.1) xs x q p' p'' (subst (λ d. AskedThrough tells d xs q p') (sym day) rest) one in
+    (q, first, subst (λ d. AskedThrough tells d (xs ++ (x ∷ [])) q p'') day more)
 
 run-push :
     {R : Type 0} (tells : R → ℕ → ℕ → Answer → R → Type 0) (xs : List Exchange) (x : Exchange) (r r' r'' : R)

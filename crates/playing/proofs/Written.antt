@@ -1,5 +1,5 @@
 -- What a list of calls writes, where words are kept: the marks of its answers, all of them.
-use Rattle.std.proofs.Common.{◌≡◌, ℕ, ◌+◌, ◌-◌, ◌≤◌, true, List, [], ◌∷◌, ◌++◌, length, None, sym, refl, ap, ◌∙◌, arith}
+use Rattle.std.proofs.Common.{◌≡◌, ℕ, ◌+◌, ◌≤◌, true, List, [], ◌∷◌, ◌++◌, length, None, sym, refl, ap, ◌∙◌, arith}
 use Rattle.std.proofs.lemmas.List.{length-map}
 use Rattle.words.specs.Words.{word}
 use Rattle.words.specs.declared.Kind.TheVariants as kind
@@ -10,7 +10,7 @@ use Rattle.calls.specs.declared.call.Call.TheVariants.{Release, Tick}
 use Rattle.calls.specs.declared.call.Reply.{Reply}
 use Rattle.calls.specs.declared.call.Reply.TheVariants.{Released, Ticked as ticked_reply, Refused}
 use Rattle.scheduler.specs.Day.{release_refusal, tick_refusal}
-use Rattle.scheduler.specs.Marks.{call_marks, call_words, opening_marks, closing_marks}
+use Rattle.scheduler.specs.Marks.{call_marks, opening_marks, closing_marks, release_marks}
 use Rattle.scheduler.specs.Outcomes.{opening_refusal}
 use Rattle.scheduler.specs.Law.{Exchange}
 use Rattle.playing.specs.Played.{Recorded, Right, next, AllRight, played}
@@ -18,23 +18,33 @@ use Rattle.playing.specs.Exchanges.{opened_on, Closable}
 use Rattle.playing.specs.Traces.{all_marks, trace_of}
 use Rattle.playing.proofs.ClosingRoom.{granted_room, few_in_tick}
 
+-- The page after a call that was answered rightly is marked with what the answer adds.
+next-page : (s : Recorded) (call : Call) (reply : Reply) → Right s call reply → (next s call reply).page ≡ marked_all s.page (call_marks call reply)
+next-page s (Release deadline budget) (Released number) right = ap (λ n. marked_all s.page (release_marks n deadline budget)) (sym right.1)
+next-page s (Release deadline budget) (ticked_reply t) right = absurd right
+next-page s (Release deadline budget) (Refused refusal) right = refl
+next-page s Tick (Released number) right = absurd right
+next-page s Tick (ticked_reply t) right = refl
+next-page s Tick (Refused refusal) right = refl
+
 -- The page after some calls is marked with what their answers add.
-pub marks-of_calls : (s : Recorded) (xs : List Exchange) → (played s xs).page ≡ marked_all s.page (all_marks xs)
-marks-of_calls s [] = refl
-marks-of_calls s (x ∷ xs) =
-    marks-of_calls (next s x.0 x.1) xs
+pub marks-of_calls : (s : Recorded) (xs : List Exchange) → AllRight s xs → (played s xs).page ≡ marked_all s.page (all_marks xs)
+marks-of_calls s [] right = refl
+marks-of_calls s (x ∷ xs) right =
+    marks-of_calls (next s x.0 x.1) xs right.1
+    ∙ ap (λ (p : Page). marked_all p (all_marks xs)) (next-page s x.0 x.1 right.0)
     ∙ sym (marked_all-append s.page (call_marks x.0 x.1) (all_marks xs))
 
 -- What a call adds fits the words that it wanted.
 call_fits : (s : Recorded) (call : Call) (reply : Reply) → Right s call reply → s.page.keeps ≡ true → length (call_marks call reply) ≤ room s.page
 call_fits s (Release deadline budget) (Released number) right keeps =
-    let free = granted_room s.page call_words (release_refusal s.day deadline budget) right.0 keeps in
+    let free = granted_room s.page 10 (release_refusal s.day deadline budget) right.0 keeps in
     omega arith
 call_fits s (Release deadline budget) (ticked_reply t) right keeps = omega arith
 call_fits s (Release deadline budget) (Refused refusal) right keeps = omega arith
 call_fits s Tick (Released number) right keeps = omega arith
 call_fits s Tick (ticked_reply t) right keeps =
-    let free = granted_room s.page call_words (tick_refusal s.day) right.0 keeps in
+    let free = granted_room s.page 10 (tick_refusal s.day) right.0 keeps in
     let few = few_in_tick t in
     omega arith
 call_fits s Tick (Refused refusal) right keeps = omega arith
@@ -45,7 +55,9 @@ calls_logged s [] right keeps = refl
 calls_logged s (x ∷ xs) right keeps =
     let call = x.0 in
     let reply = x.1 in
-    calls_logged (next s call reply) xs right.1 (marked_all-keeps s.page (call_marks call reply) ∙ keeps)
+    let page = next-page s call reply right.0 in
+    calls_logged (next s call reply) xs right.1 (ap (λ (p : Page). p.keeps) page ∙ marked_all-keeps s.page (call_marks call reply) ∙ keeps)
+    ∙ ap (λ (p : Page). logged_all p.log (all_marks xs)) page
     ∙ ap (λ log. logged_all log (all_marks xs)) (marked_all-log s.page (call_marks call reply) (call_fits s call reply right.0 keeps))
     ∙ sym (logged_all-append s.page.log (call_marks call reply) (all_marks xs))
 
@@ -65,7 +77,7 @@ trace_logged rates page xs clock keeps blank granted right closable =
     let many = length-map rates (λ rate. wrote (word kind.Rate rate)) in
     let free = granted_room page (length rates + 3) None granted keeps in
     let kept : begun.keeps ≡ true = marked_all-keeps page opening ∙ keeps in
-    let calls = marks-of_calls s xs in
+    let calls = marks-of_calls s xs right in
     let logged = calls_logged s xs right kept in
     let still : (played s xs).page.keeps ≡ true = ap (λ (p : Page). p.keeps) calls ∙ marked_all-keeps begun (all_marks xs) ∙ kept in
     let one = closable still in

@@ -11,8 +11,8 @@ use Rattle.calls.specs.declared.call.Reply.TheVariants.{Released, Ticked as tick
 use Rattle.calls.specs.declared.refusal.Refusal.{Refusal}
 use Rattle.calls.specs.declared.ticked.Ticked.{Ticked}
 use Rattle.calls.specs.declared.ticked.Ticked.TheVariants.{Idle, Ran as ran}
-use Rattle.scheduler.specs.Day.{DayState, Told, after_tick, release_refusal, released, tick_refusal}
-use Rattle.scheduler.specs.Marks.{call_marks, call_words, or_no_room}
+use Rattle.scheduler.specs.Day.{DayState, Event, arrived, passed, after, Told, after_tick, release_refusal, released, tick_refusal}
+use Rattle.scheduler.specs.Marks.{event_marks, or_no_room}
 use Rattle.scheduler.specs.Law.{Exchange}
 
 -- A day and its trace.
@@ -20,10 +20,14 @@ pub record Recorded : Type 0 where
   pub day : DayState
   pub page : Page
 
+-- Both after an accepted call.
+abbrev pub recorded : Recorded → Event → Recorded
+recorded s e = record { day = after s.day e; page = marked_all s.page (event_marks s.day e) }
+
 -- The refusal of a call, if it is refused: a release or a tick wants ten free words.
 abbrev pub refusal_for : Recorded → Call → Option Refusal
-refusal_for s (Release deadline budget) = or_no_room s.page call_words (release_refusal s.day deadline budget)
-refusal_for s Tick = or_no_room s.page call_words (tick_refusal s.day)
+refusal_for s (Release deadline budget) = or_no_room s.page 10 (release_refusal s.day deadline budget)
+refusal_for s Tick = or_no_room s.page 10 (tick_refusal s.day)
 
 -- The answer is right: the number of a job that is accepted, what a tick may tell, or the refusal.
 abbrev pub Right : Recorded → Call → Reply → Type 0
@@ -36,6 +40,15 @@ Right s Tick (ticked_reply t) = (refusal_for s Tick ≡ None) × Told s.day t
 Right s Tick (Refused refusal) = refusal_for s Tick ≡ Some refusal
 
 -- Day and trace after a call and its answer: a refused call leaves both as they were.
+abbrev pub next : Recorded → Call → Reply → Recorded
+next s (Release deadline budget) (Released number) = recorded s (arrived deadline budget)
+next s (Release deadline budget) (ticked_reply t) = s
+next s (Release deadline budget) (Refused refusal) = s
+next s Tick (Released number) = s
+next s Tick (ticked_reply t) = recorded s (passed t)
+next s Tick (Refused refusal) = s
+
+-- The day of it, which is found without the trace.
 abbrev pub next_day : DayState → Call → Reply → DayState
 next_day day (Release deadline budget) (Released number) = released day deadline budget
 next_day day (Release deadline budget) (ticked_reply t) = day
@@ -43,9 +56,6 @@ next_day day (Release deadline budget) (Refused refusal) = day
 next_day day Tick (Released number) = day
 next_day day Tick (ticked_reply t) = after_tick day t
 next_day day Tick (Refused refusal) = day
-
-abbrev pub next : Recorded → Call → Reply → Recorded
-next s call reply = record { day = next_day s.day call reply; page = marked_all s.page (call_marks call reply) }
 
 -- Every answer of the list is right where its call was made.
 abbrev pub AllRight : Recorded → List Exchange → Type 0

@@ -8,7 +8,6 @@ use Rattle.renderers.specs.declared.answer.Answer.{Answer}
 use Rattle.renderers.specs.declared.answer.Answer.TheVariants.{Finished, Running as running_answer}
 use Rattle.scheduler.specs.declared.job.Job.{Job}
 use Rattle.calls.specs.declared.ticked.Ending.{Ending}
-use Rattle.calls.specs.declared.ticked.Ending.TheVariants as ending
 use Rattle.calls.specs.declared.ticked.Ticked.TheVariants.{Ran as ran}
 use Rattle.scheduler.specs.Chooses.{run_on}
 use Rattle.scheduler.specs.Day.{DayState, first_job, switch_to, level_in, bound_of, told, Told, ToldChosen, Paced, make_way, left_of, amend, handed, ending_of, after, after_run, after_chosen, passed}

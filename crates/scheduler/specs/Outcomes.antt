@@ -1,5 +1,5 @@
 -- What comes of each call of a day: of one that is refused, and of one that is accepted.
-use Rattle.std.specs.Prelude.{◌≡◌, ℕ, ◌+◌, ◌-◌, List, length, Some, None, Option}
+use Rattle.std.specs.Prelude.{◌≡◌, ℕ, ◌+◌, List, length, Some, None, Option}
 use Rattle.recorder.specs.Page.{Page, marked_all}
 use Rattle.calls.specs.declared.refusal.Refusal.{Refusal}
 use Rattle.renderers.specs.declared.answer.Answer.{Answer}
@@ -11,7 +11,7 @@ use Rattle.calls.specs.declared.ticked.Ticked.TheVariants.{Idle, Ran as ran}
 use Rattle.renderers.specs.Requests.{heard}
 use Rattle.scheduler.specs.Chooses.{Asks}
 use Rattle.scheduler.specs.Day.{DayState, opened, released, release_refusal, tick_refusal, first_job, Told, after_tick}
-use Rattle.scheduler.specs.Marks.{call_words, or_no_room, opening_marks, release_marks, tick_marks}
+use Rattle.scheduler.specs.Marks.{or_no_room, opening_marks, release_marks, tick_marks}
 
 -- A call was refused for this cause, and what it was handed is as it was.
 pub record Refused (cause : Option Refusal) (refusal : Refusal) (As-it-was : Type 0) : Type 0 where
@@ -30,14 +30,14 @@ pub record Opens (rates : List ℕ) (page page' : Page) (day : DayState) : Type 
 
 -- A job was accepted on a day and its trace: nothing refuses it, and it has the next number.
 pub record Releases (day day' : DayState) (page page' : Page) (deadline budget number : ℕ) : Type 0 where
-  pub granted : or_no_room page call_words (release_refusal day deadline budget) ≡ None
+  pub granted : or_no_room page 10 (release_refusal day deadline budget) ≡ None
   pub numbered : number ≡ day.accepted + 1
   pub accepted : day' ≡ released day deadline budget
   pub recorded : page' ≡ marked_all page (release_marks number deadline budget)
 
 -- A tick went by on a day and its trace, and told this.
 pub record Ticks (day day' : DayState) (page page' : Page) (t : Ticked) : Type 0 where
-  pub granted : or_no_room page call_words (tick_refusal day) ≡ None
+  pub granted : or_no_room page 10 (tick_refusal day) ≡ None
   pub told : Told day t
   pub passed : day' ≡ after_tick day t
   pub recorded : page' ≡ marked_all page (tick_marks t)

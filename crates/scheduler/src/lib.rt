@@ -1,4 +1,5 @@
 //! The day: title jobs played earliest deadline first, slowed as far as their deadlines allow.
+#![tactic(auto)]
 
 mod chosen;
 pub mod closed_day;

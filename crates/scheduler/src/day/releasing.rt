@@ -3,7 +3,7 @@
 ghost use Rattle.std.specs.Prelude.{◌≡◌, ◌+◌, ◌<◌, [], ◌∷◌, ◌++◌, None, Ok, Err};
 ghost use Rattle.std.specs.Result.{result_err};
 ghost use Rattle.scheduler.specs.Day.{release_refusal, released};
-ghost use Rattle.scheduler.specs.Marks.{call_words, or_no_room};
+ghost use Rattle.scheduler.specs.Marks.{or_no_room};
 ghost use Rattle.scheduler.specs.Model.{model};
 ghost use Rattle.scheduler.specs.Outcomes.{Refused, Releases};
 ghost use Rattle.scheduler.specs.Pending.{items};
@@ -31,7 +31,7 @@ impl Day {
         budget: u32,
         trace: &mut T,
     ) -> Result<u32, Refusal>
-        ensures { elim result [ Ok number ↦ Releases (model self.old) (model self.new) (T.Trace.page trace.old) (T.Trace.page trace.new) deadline budget number | Err refusal ↦ Refused (or_no_room (T.Trace.page trace.old) call_words (release_refusal (model self.old) deadline budget)) refusal ((self.new ≡ self.old) × (trace.new ≡ trace.old)) ] }
+        ensures { elim result [ Ok number ↦ Releases (model self.old) (model self.new) (T.Trace.page trace.old) (T.Trace.page trace.new) deadline budget number | Err refusal ↦ Refused (or_no_room (T.Trace.page trace.old) 10 (release_refusal (model self.old) deadline budget)) refusal ((self.new ≡ self.old) × (trace.new ≡ trace.old)) ] }
     {
         self.check_release(deadline, budget, trace)?;
         let number = self.accept(deadline, budget);
@@ -41,7 +41,7 @@ impl Day {
 
     /// Why a release on this trace is refused.
     fn check_release<T: Trace>(&self, deadline: u32, budget: u32, trace: &T) -> Result<(), Refusal>
-        ensures { result_err result ≡ or_no_room (T.Trace.page trace.now) call_words (release_refusal (model self.now) deadline budget) }
+        ensures { result_err result ≡ or_no_room (T.Trace.page trace.now) 10 (release_refusal (model self.now) deadline budget) }
     {
         self.check_job(deadline, budget)?;
         check_room(trace, CALL_WORDS)

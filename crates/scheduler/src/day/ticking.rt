@@ -4,7 +4,7 @@
 ghost use Rattle.std.specs.Prelude.{◌≡◌, ◌<◌, Ok, Err};
 ghost use Rattle.std.specs.Result.{result_err};
 ghost use Rattle.scheduler.specs.Day.{Told, after_tick, tick_refusal};
-ghost use Rattle.scheduler.specs.Marks.{call_words, or_no_room};
+ghost use Rattle.scheduler.specs.Marks.{or_no_room};
 ghost use Rattle.scheduler.specs.Model.{model};
 ghost use Rattle.scheduler.specs.Outcomes.{Asked, Refused, Rendered, Ticks};
 ghost use Rattle.scheduler.specs.Writable.{TickedFits};
@@ -27,7 +27,7 @@ impl Day {
         renderer: &mut R,
         trace: &mut T,
     ) -> Result<Ticked, Refusal>
-        ensures day { elim result [ Ok t ↦ Ticks (model self.old) (model self.new) (T.Trace.page trace.old) (T.Trace.page trace.new) t | Err refusal ↦ Refused (or_no_room (T.Trace.page trace.old) call_words (tick_refusal (model self.old))) refusal ((self.new ≡ self.old) × (trace.new ≡ trace.old)) ] }
+        ensures day { elim result [ Ok t ↦ Ticks (model self.old) (model self.new) (T.Trace.page trace.old) (T.Trace.page trace.new) t | Err refusal ↦ Refused (or_no_room (T.Trace.page trace.old) 10 (tick_refusal (model self.old))) refusal ((self.new ≡ self.old) × (trace.new ≡ trace.old)) ] }
         ensures policy { elim result [ Ok t ↦ Asked P.Policy.tells (model self.old) t policy.old policy.new | Err refusal ↦ policy.new ≡ policy.old ] }
         ensures renderer { elim result [ Ok t ↦ Rendered R.Renderer.meaning R.Renderer.tells t renderer.old renderer.new | Err refusal ↦ renderer.new ≡ renderer.old ] }
     {
@@ -39,7 +39,7 @@ impl Day {
 
     /// Why a tick on this trace is refused.
     fn check_tick<T: Trace>(&self, trace: &T) -> Result<(), Refusal>
-        ensures { result_err result ≡ or_no_room (T.Trace.page trace.now) call_words (tick_refusal (model self.now)) }
+        ensures { result_err result ≡ or_no_room (T.Trace.page trace.now) 10 (tick_refusal (model self.now)) }
     {
         if self.clock >= LAST_CLOCK {
             return Err(Refusal::Clock { clock: self.clock });
