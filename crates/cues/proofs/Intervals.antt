@@ -1,6 +1,6 @@
 -- The demand of an interval: an interval with work in it shrinks to one from a release to a deadline, with the same demand.
 use Rattle.std.proofs.Common.{◌≡◌, ℕ, zero, suc, ◌+◌, ◌<◌, ◌≤◌, cond, ◌⊎◌, List, [], ◌∷◌, refl, ◌∙◌, inl, inr, ⊎_elim, arith}
-use Rattle.std.specs.List.{AllByRecursion as All}
+use Rattle.std.specs.List.{AllByRecursion}
 use Rattle.std.proofs.lemmas.Bool.{cases_eq}
 use Rattle.std.proofs.lemmas.Bool.Decides.{nat_tests}
 use Rattle.cues.specs.Demand.{Job, inside, demand}
@@ -8,7 +8,7 @@ use Rattle.cues.specs.Loading.{SomeJob}
 
 -- Each job has time, and takes some.
 abbrev pub Timely : List Job → Type 0
-Timely js = All (λ j. (j.release < j.deadline) × (0 < j.budget)) js
+Timely js = AllByRecursion (λ j. (j.release < j.deadline) × (0 < j.budget)) js
 
 later : (P : Job → Type 0) (j : Job) (js : List Job) → SomeJob P js → SomeJob P (j ∷ js)
 later P j js found = (suc found.0, omega (arith, found.1), found.2)

@@ -2,7 +2,7 @@
 use Rattle.std.proofs.Common.{◌≡◌, ℕ, ◌+◌, ◌^◌, ◌<◌, Bool, true, false, cond, eqb, List, [], ◌∷◌, ◌++◌, map, length, Ok, Err, Result, refl, ap, ◌∙◌, subst, arith, length-append}
 use Rattle.std.proofs.lemmas.List.{length-map}
 use Rattle.std.proofs.lemmas.Bool.{cond_both, cond-true, cond-false, eqb-true}
-use Rattle.std.specs.List.{AllByRecursion as All}
+use Rattle.std.specs.List.{AllByRecursion}
 use Rattle.words.specs.declared.Kind.TheVariants.{Rate}
 use Rattle.words.specs.declared.fault.WordFault.{WordFault}
 use Rattle.words.specs.declared.fault.WordFault.TheVariants.{Misplaced}
@@ -24,10 +24,10 @@ rates_then_rest (w ∷ ws) = by_kind (is Rate w) refl (rates_then_rest ws)
     by_kind true kind more = ap (λ v. v ∷ ws) (word-of_kind Rate w kind) ∙ ap (λ vs. word Rate (payload w) ∷ vs) more
     by_kind false kind more = refl
 
-rates_fit_words : (ws : List ℕ) → All (λ rate. rate < 2 ^ 28) (rates_in ws)
+rates_fit_words : (ws : List ℕ) → AllByRecursion (λ rate. rate < 2 ^ 28) (rates_in ws)
 rates_fit_words [] = tt
 rates_fit_words (w ∷ ws) =
-    cond_both (is Rate w) (payload w ∷ rates_in ws) [] (All (λ rate. rate < 2 ^ 28)) (λ _. (payload-fits w, rates_fit_words ws)) (λ _. tt)
+    cond_both (is Rate w) (payload w ∷ rates_in ws) [] (AllByRecursion (λ rate. rate < 2 ^ 28)) (λ _. (payload-fits w, rates_fit_words ws)) (λ _. tt)
 
 no_rate_behind : (ws : List ℕ) → at_rate (behind_rates ws) ≡ false
 no_rate_behind [] = refl
@@ -53,7 +53,7 @@ head-counts words front h =
     let same = ap length (words_of_head words front h).same_words in
     omega (arith, same, length-append (map (word Rate) front.rates) front.rest, length-map front.rates (word Rate))
 
-rates_back : (rates rest : List ℕ) → All (λ rate. rate < 2 ^ 28) rates → at_rate rest ≡ false → (rates_in (map (word Rate) rates ++ rest) ≡ rates) × (behind_rates (map (word Rate) rates ++ rest) ≡ rest)
+rates_back : (rates rest : List ℕ) → AllByRecursion (λ rate. rate < 2 ^ 28) rates → at_rate rest ≡ false → (rates_in (map (word Rate) rates ++ rest) ≡ rates) × (behind_rates (map (word Rate) rates ++ rest) ≡ rest)
 rates_back [] [] fit no_more = (refl, refl)
 rates_back [] (w ∷ ws) fit no_more = (cond-false _ _ _ no_more, cond-false _ _ _ no_more)
 rates_back (rate ∷ rates) rest (fits, fit) no_more =

@@ -1,6 +1,6 @@
 -- The head of a file: edition 1, and a word for each rate.
 use Rattle.std.specs.Prelude.{◌≡◌, ℕ, ◌^◌, ◌<◌, Bool, false, cond, List, [], ◌∷◌, ◌++◌, map, Ok, Err, Result, ◌==◌}
-use Rattle.std.specs.List.{AllByRecursion as All}
+use Rattle.std.specs.List.{AllByRecursion}
 use Rattle.words.specs.declared.Kind.TheVariants.{Edition, Rate}
 use Rattle.words.specs.declared.fault.WordFault.{WordFault}
 use Rattle.words.specs.declared.fault.WordFault.TheVariants.{Misplaced, EndsEarly}
@@ -34,5 +34,5 @@ at_rate (w ∷ ws) = is Rate w
 -- The words are edition 1, a word for each rate, and then what does not begin with a rate.
 pub record WordsOf (words : List ℕ) (front : Front) : Type 0 where
   pub same_words : words ≡ word Edition 1 ∷ (map (word Rate) front.rates ++ front.rest)
-  pub rates_fit : All (λ rate. rate < 2 ^ 28) front.rates
+  pub rates_fit : AllByRecursion (λ rate. rate < 2 ^ 28) front.rates
   pub no_more : at_rate front.rest ≡ false

@@ -1,6 +1,6 @@
 -- The law over whole runs: a day answered rightly is never behind the reference run of the calls that it accepted.
 use Rattle.std.proofs.Common.{◌≡◌, ℕ, zero, suc, ◌+◌, ◌-◌, ◌<◌, ◌≤◌, List, [], ◌∷◌, map, length, get_or, Some, None, Option, sym, refl, ap, ◌∙◌, subst, subst₂, arith}
-use Rattle.std.specs.List.{ContainsAt as Has}
+use Rattle.std.specs.List.{ContainsAt}
 use Rattle.std.proofs.lemmas.List.{get_or_default}
 use Rattle.rates.specs.Lawful.{Lawful}
 use Rattle.recorder.specs.Page.{Page}
@@ -73,7 +73,7 @@ day_over_by None bound (Some e) deadline by h = h e refl
 day_over_by (Some end) None (Some e) deadline by h = absurd (h e refl)
 day_over_by (Some end) (Some bound) (Some e) deadline by h = omega (arith, h e refl)
 
-has_job : (s : Reference) (n : ℕ) (r : Row) → IsJob s n r → Has s.rows r
+has_job : (s : Reference) (n : ℕ) (r : Row) → IsJob s n r → ContainsAt s.rows r
 has_job s n r (from, to, is) = (n - 1, omega arith, λ d. get_or_default s.rows (n - 1) d r (omega arith) ∙ is)
 
 module _ (rates : List ℕ) (page : Page) (xs : List Exchange) (lawful : Lawful rates) (right : AllRight (record { day = opened rates; page = page }) xs) where

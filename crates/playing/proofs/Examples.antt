@@ -1,6 +1,6 @@
 -- The worked examples hold: by computation, the loading factors by trying every interval from a release to a deadline.
 use Rattle.std.proofs.Common.{◌≡◌, ℕ, ◌-◌, ◌≤◌, Bool, true, false, not, ◌&&◌, List, [], ◌∷◌, length, refl, subst, arith}
-use Rattle.std.specs.List.{AllByRecursion as All}
+use Rattle.std.specs.List.{AllByRecursion}
 use Rattle.std.proofs.ByRecursion.{All-get_or, All-weaker}
 use Rattle.std.proofs.lemmas.Bool.{and_parts, not-true}
 use Rattle.cues.specs.declared.candidate.Candidate.{Candidate}
@@ -43,7 +43,7 @@ abbrev every : {X : Type 0} → (X → Bool) → List X → Bool
 every test [] = true
 every test (x ∷ xs) = test x && every test xs
 
-all_from_every : {X : Type 0} (test : X → Bool) (xs : List X) → every test xs ≡ true → All (λ x. test x ≡ true) xs
+all_from_every : {X : Type 0} (test : X → Bool) (xs : List X) → every test xs ≡ true → AllByRecursion (λ x. test x ≡ true) xs
 all_from_every test [] e = tt
 all_from_every test (x ∷ xs) e =
     let both = and_parts (test x) (every test xs) e in
@@ -51,7 +51,7 @@ all_from_every test (x ∷ xs) e =
 
 -- What holds of a number of every job holds of the one that some job has.
 of_some_job :
-    (f : Job → ℕ) (P : ℕ → Type 0) (j : Job) (js : List Job) (x : ℕ) → All (λ i. P (f i)) (j ∷ js) → SomeJob (λ i. f i ≡ x) (j ∷ js) → P x
+    (f : Job → ℕ) (P : ℕ → Type 0) (j : Job) (js : List Job) (x : ℕ) → AllByRecursion (λ i. P (f i)) (j ∷ js) → SomeJob (λ i. f i ≡ x) (j ∷ js) → P x
 of_some_job f P j js x h (k, inside, is) = subst P (is j) (All-get_or (λ i. P (f i)) (j ∷ js) k j inside h)
 
 -- No interval from a release to a deadline is before this one.

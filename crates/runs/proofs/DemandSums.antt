@@ -1,6 +1,6 @@
 -- The demand of an interval as a job is added, and as a sum over the rows of a run; with a few facts about sums and lists.
 use Rattle.std.proofs.Common.{◌≡◌, ℕ, ◌+◌, ◌≤◌, cond, ◌⊎◌, List, [], ◌∷◌, ◌++◌, map, sum_by, refl, subst, inl, inr, ⊎_elim, arith}
-use Rattle.std.specs.List.{ContainsAt as Has, AllByRecursion as All}
+use Rattle.std.specs.List.{ContainsAt, AllByRecursion}
 use Rattle.std.proofs.ByRecursion.{all_has_itself}
 use Rattle.std.proofs.lemmas.List.Sums.{sum_by-cons, get_or-le-sum_by}
 use Rattle.cues.specs.Demand.{Job, inside, demand, Overloaded}
@@ -24,23 +24,23 @@ demand-of_rows (r ∷ rows) a b = omega (arith, demand-of_rows rows a b, sum_by-
 
 module _ {X : Type 0} where
   -- Each element has its part in a sum over all.
-  pub part-of-sum : (f : X → ℕ) (xs : List X) (x : X) → Has xs x → f x ≤ sum_by f xs
+  pub part-of-sum : (f : X → ℕ) (xs : List X) (x : X) → ContainsAt xs x → f x ≤ sum_by f xs
   part-of-sum f xs x (place, stands, there) = subst (λ y. f y ≤ sum_by f xs) (there x) (get_or-le-sum_by f xs place x stands)
 
   -- Sums compare as their parts do.
-  pub sum_mono : (f g : X → ℕ) (xs : List X) → All (λ x. f x ≤ g x) xs → sum_by f xs ≤ sum_by g xs
+  pub sum_mono : (f g : X → ℕ) (xs : List X) → AllByRecursion (λ x. f x ≤ g x) xs → sum_by f xs ≤ sum_by g xs
   sum_mono f g [] all = omega arith
   sum_mono f g (x ∷ xs) (one, all) = omega (arith, sum_by-cons f x xs, sum_by-cons g x xs, sum_mono f g xs all)
 
-  pub sum-none : (f : X → ℕ) (xs : List X) → All (λ x. f x ≡ 0) xs → sum_by f xs ≡ 0
+  pub sum-none : (f : X → ℕ) (xs : List X) → AllByRecursion (λ x. f x ≡ 0) xs → sum_by f xs ≡ 0
   sum-none f [] all = refl
   sum-none f (x ∷ xs) (one, all) = omega (arith, sum_by-cons f x xs, sum-none f xs all)
 
-  -- All pass, or some element does not.
-  pub all-or-some : (P Q : X → Type 0) → ((x : X) → P x ⊎ Q x) → (xs : List X) → All P xs ⊎ ((x : X) × Has xs x × Q x)
+  -- AllByRecursion pass, or some element does not.
+  pub all-or-some : (P Q : X → Type 0) → ((x : X) → P x ⊎ Q x) → (xs : List X) → AllByRecursion P xs ⊎ ((x : X) × ContainsAt xs x × Q x)
   all-or-some P Q either xs = go xs (all_has_itself xs)
     where
-      go : (rest : List X) → All (Has xs) rest → All P rest ⊎ ((x : X) × Has xs x × Q x)
+      go : (rest : List X) → AllByRecursion (ContainsAt xs) rest → AllByRecursion P rest ⊎ ((x : X) × ContainsAt xs x × Q x)
       go [] has = inl tt
       go (x ∷ rest) (here, has) =
           ⊎_elim (λ p. ⊎_elim (λ all. inl (p, all)) inr (go rest has)) (λ q. inr (x, here, q)) (either x)

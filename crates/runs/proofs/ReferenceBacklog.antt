@@ -2,7 +2,7 @@
 -- from it as long as there is one. While there is a backlog, some clock a has it, with the ticks since a, inside the demand of [a, d).
 -- So a job that still has ticks left at its deadline, or has just ended after it, gives an interval that demands too much.
 use Rattle.std.proofs.Common.{◌≡◌, ℕ, ◌+◌, ◌-◌, ◌<◌, ◌≤◌, cond, eqb, leb, ◌⊎◌, List, [], ◌∷◌, ◌++◌, Some, None, sum_by, Option, sym, refl, ap, ◌∙◌, subst, subst₂, inl, inr, ⊎_elim, arith}
-use Rattle.std.specs.List.{ContainsAt as Has, AllByRecursion as All}
+use Rattle.std.specs.List.{ContainsAt, AllByRecursion}
 use Rattle.std.proofs.lemmas.List.{map_push}
 use Rattle.std.proofs.lemmas.Bool.{cond_both, cond-true, leb-true, le-leb, and_from, cases_lt}
 use Rattle.std.proofs.ByRecursion.{All-weaker, All-push, all-has}
@@ -101,10 +101,10 @@ prompt_push js j deadline (Some end) prompt = ⊎_elim inl (λ over. inr (overlo
 pub record OnTime (s : Reference) : Type 0 where
   pub regular : AllRegular s
   pub behind : (d : ℕ) → Behind s.clock (jobs s) d (backlog d s.rows)
-  pub prompt : All (λ r. Prompt (jobs s) r.job.deadline r.end) s.rows
+  pub prompt : AllByRecursion (λ r. Prompt (jobs s) r.job.deadline r.end) s.rows
 
 -- A job with ticks left at its deadline or later shows an overload.
-overload_from : (s : Reference) → OnTime s → (r : Row) → Has s.rows r → 0 < r.left → r.job.deadline ≤ s.clock → Overloaded (jobs s)
+overload_from : (s : Reference) → OnTime s → (r : Row) → ContainsAt s.rows r → 0 < r.left → r.job.deadline ≤ s.clock → Overloaded (jobs s)
 overload_from s o r has working late =
     let d = r.job.deadline in
     behind_late s.clock (jobs s) d (backlog d s.rows) late
@@ -121,7 +121,7 @@ released-on_time s deadline budget some ahead o =
           subst₂ (λ js u. Behind s.clock js d u) (sym all-jobs) (sym (sum_by_push (owed d) s.rows _))
           (behind-released s.clock deadline budget (jobs s) d (backlog d s.rows) ahead (o.behind d));
       prompt =
-          subst (λ js. All (λ r. Prompt js r.job.deadline r.end) (step s (released deadline budget)).rows) (sym all-jobs)
+          subst (λ js. AllByRecursion (λ r. Prompt js r.job.deadline r.end) (step s (released deadline budget)).rows) (sym all-jobs)
           (All-push _ s.rows _ (All-weaker _ _ (λ r prompt. prompt_push (jobs s) job r.job.deadline r.end prompt) s.rows o.prompt) tt);
     }
   where
@@ -139,14 +139,14 @@ ticked-on_time s o =
           subst₂ (λ js u. Behind (s.clock + 1) js d u) (sym same-jobs) (sym (backlog-ticked (s.clock + 1) s.rows d))
           (behind_ticked s.clock (jobs s) d (backlog d s.rows) (o.behind d));
       prompt =
-          subst (λ js. All (λ r. Prompt js r.job.deadline r.end) (step s ticked).rows) (sym same-jobs)
+          subst (λ js. AllByRecursion (λ r. Prompt js r.job.deadline r.end) (step s ticked).rows) (sym same-jobs)
           (tick_all _ _ (s.clock + 1) s.rows (λ r prompt. prompt) served-prompt o.prompt);
     }
   where
     same-jobs : jobs (step s ticked) ≡ jobs s
     same-jobs = tick_jobs (s.clock + 1) s.rows
 
-    served-prompt : (r : Row) → Has s.rows r → 0 < r.left → Prompt (jobs s) r.job.deadline r.end → Prompt (jobs s) r.job.deadline (served (s.clock + 1) r).end
+    served-prompt : (r : Row) → ContainsAt s.rows r → 0 < r.left → Prompt (jobs s) r.job.deadline r.end → Prompt (jobs s) r.job.deadline (served (s.clock + 1) r).end
     served-prompt r has working prompt =
         cond_both (eqb r.left 1) _ _ (Prompt (jobs s) r.job.deadline)
         (λ last. ⊎_elim (λ early. inl (omega arith)) (λ late. inr (overload_from s o r has working (omega arith))) (cases_lt s.clock r.job.deadline))
@@ -156,7 +156,7 @@ pub always_on_time : (calls : List Accepted) → Sound 0 calls → OnTime (run f
 always_on_time calls sound = run-keeps OnTime released-on_time ticked-on_time calls fresh sound fresh-on_time
 
 -- A job that is missed shows an overload.
-pub missed_shows_overload : (s : Reference) → OnTime s → (r : Row) → Has s.rows r → Missed s.clock r → Overloaded (jobs s)
+pub missed_shows_overload : (s : Reference) → OnTime s → (r : Row) → ContainsAt s.rows r → Missed s.clock r → Overloaded (jobs s)
 missed_shows_overload s o r has (come, late) =
     go r.end (all-has _ s.rows r o.regular has).1 (all-has _ s.rows r o.prompt has) late
   where

@@ -2,7 +2,7 @@
 -- each job whose deadline has come was over by then. A missed job shows an overloaded interval; and once the last deadline
 -- has come, an overloaded interval shows a missed job.
 use Rattle.std.proofs.Common.{◌≤◌, ◌↔◌, List, ⊎_elim, arith}
-use Rattle.std.specs.List.{ContainsAt as Has}
+use Rattle.std.specs.List.{ContainsAt}
 use Rattle.std.proofs.ByRecursion.{all-has}
 use Rattle.cues.specs.Demand.{Overloaded, Feasible}
 use Rattle.runs.specs.ReferenceRun.{Accepted, Row, Reference, fresh, run}
@@ -21,7 +21,7 @@ module _ (calls : List Accepted) (sound : Sound 0 calls) where
   missed-overloaded (r, has, missed) = missed_shows_overload final (always_on_time calls sound) r has missed
 
   -- Where no interval is overloaded, each job whose deadline has come was over by then.
-  pub feasible-over-by-deadline : Feasible (jobs final) → (r : Row) → Has final.rows r → r.job.deadline ≤ final.clock → OverBy r.job.deadline r.end
+  pub feasible-over-by-deadline : Feasible (jobs final) → (r : Row) → ContainsAt final.rows r → r.job.deadline ≤ final.clock → OverBy r.job.deadline r.end
   feasible-over-by-deadline feasible r has come =
       ⊎_elim (λ over. over) (λ late. absurd (no-overload (missed-overloaded (r, has, (come, late)))))
       (over-by_or_not r.job.deadline r.end)
@@ -35,7 +35,7 @@ module _ (calls : List Accepted) (sound : Sound 0 calls) where
       ⊎_elim (λ in_time. absurd (omega (arith, in_time_fits a b final (always-fits a b calls sound) in_time))) late
       (all-or-some _ _ (λ r. over-by_or_not r.job.deadline r.end) final.rows)
     where
-      late : ((r : Row) × Has final.rows r × ¬ OverBy r.job.deadline r.end) → Misses final
+      late : ((r : Row) × ContainsAt final.rows r × ¬ OverBy r.job.deadline r.end) → Misses final
       late (r, has, not-over) = (r, has, (omega (arith, all-has _ final.rows r (due-by_last final.rows) has), not-over))
 
   -- Once the last deadline has come, some job is missed exactly when some interval is overloaded.

@@ -1,7 +1,7 @@
 -- What holds at the start of a reference run, and is kept by each accepted call, holds at its end. So it is with the rows:
 -- each job has been released by now, and it has ticks left exactly as long as it has no end.
 use Rattle.std.proofs.Common.{◌≡◌, ℕ, ◌+◌, ◌-◌, ◌<◌, ◌≤◌, eqb, List, [], ◌∷◌, Some, None, Option, arith}
-use Rattle.std.specs.List.{AllByRecursion as All}
+use Rattle.std.specs.List.{AllByRecursion}
 use Rattle.std.proofs.lemmas.Bool.{cond_both, eqb-true, eqb-false}
 use Rattle.std.proofs.ByRecursion.{All-push}
 use Rattle.runs.specs.ReferenceRun.{Accepted, released, ticked, Row, Reference, served, step, run}
@@ -24,7 +24,7 @@ abbrev pub Regular : ℕ → Row → Type 0
 Regular clock r = (r.job.release ≤ clock) × Agree r.left r.end
 
 abbrev pub AllRegular : Reference → Type 0
-AllRegular s = All (Regular s.clock) s.rows
+AllRegular s = AllByRecursion (Regular s.clock) s.rows
 
 served-agrees : (after : ℕ) (r : Row) → 0 < r.left → Agree r.left r.end → Agree (served after r).left (served after r).end
 served-agrees after r working agree =

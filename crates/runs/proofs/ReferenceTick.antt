@@ -2,7 +2,7 @@
 -- where no job has ticks left, it changes no row. What holds of every row, and sums over the rows, follow a tick by that.
 use Rattle.std.proofs.Common.{◌≡◌, ℕ, suc, ◌+◌, ◌<◌, ◌≤◌, Bool, true, false, ◌&&◌, eqb, ltb, List, [], ◌∷◌, map, length, get_or, set, is_some, Some, None, sum_by, Option, sym, refl, ap, ◌∙◌, subst, arith}
 use lib.Seq.{map-set_same}
-use Rattle.std.specs.List.{ContainsAt as Has, AllByRecursion as All}
+use Rattle.std.specs.List.{ContainsAt, AllByRecursion}
 use Rattle.std.proofs.lemmas.Bool.{false≢true, cond_both, cond-true, cond-false, ltb-true, ltb-false, eqb-true, eqb-false, and_parts, and_from, and_left, and_right}
 use Rattle.std.proofs.ByRecursion.{All-weaker, All-set, all-has, has_get_or}
 use Rattle.std.proofs.lemmas.List.Sums.{sum_by-set}
@@ -10,11 +10,11 @@ use Rattle.runs.specs.ReferenceRun.{Row, sooner, soonest, served, serve, serve_s
 
 -- Every job with ticks left is due at d or later.
 abbrev pub NoneBefore : ℕ → List Row → Type 0
-NoneBefore d rows = All (λ r. 0 < r.left → d ≤ r.job.deadline) rows
+NoneBefore d rows = AllByRecursion (λ r. 0 < r.left → d ≤ r.job.deadline) rows
 
 -- No job has ticks left.
 abbrev pub AllDone : List Row → Type 0
-AllDone rows = All (λ r. r.left ≡ 0) rows
+AllDone rows = AllByRecursion (λ r. r.left ≡ 0) rows
 
 -- What the earliest deadline tells of the rows.
 abbrev Soonest : Option ℕ → List Row → Type 0
@@ -111,8 +111,8 @@ by_tick after rows P idle one = go (soonest rows) refl (soonest-is_first rows)
         let (s, becomes) = serve-finds after d rows is in
         subst P (sym becomes) (one d s first)
 
-served-has : (d : ℕ) (rows : List Row) (s : Served d rows) → Has rows s.row
-served-has d rows s = subst (Has rows) s.there (has_get_or rows s.place s.row s.stands)
+served-has : (d : ℕ) (rows : List Row) (s : Served d rows) → ContainsAt rows s.row
+served-has d rows s = subst (ContainsAt rows) s.there (has_get_or rows s.place s.row s.stands)
 
 -- A sum over the rows changes by what changes at the job served.
 pub served-sum : (f : Row → ℕ) (after d : ℕ) (rows : List Row) (s : Served d rows) → sum_by f (with_served after d rows s) + f s.row ≡ sum_by f rows + f (served after s.row)
@@ -121,22 +121,22 @@ served-sum f after d rows s =
     (sum_by-set f rows s.place _ s.row s.stands)
 
 -- A sum over the rows grows by at most k under a tick, if it does so at any job that may be served.
-pub tick_sum_le : (f : Row → ℕ) (k after : ℕ) (rows : List Row) → ((r : Row) → Has rows r → f (served after r) ≤ f r + k) → sum_by f (ticked_rows after rows) ≤ sum_by f rows + k
+pub tick_sum_le : (f : Row → ℕ) (k after : ℕ) (rows : List Row) → ((r : Row) → ContainsAt rows r → f (served after r) ≤ f r + k) → sum_by f (ticked_rows after rows) ≤ sum_by f rows + k
 tick_sum_le f k after rows grows =
     by_tick after rows (λ rs. sum_by f rs ≤ sum_by f rows + k)
     (λ all_done. omega arith)
     (λ d s first. omega (arith, served-sum f after d rows s, grows s.row (served-has d rows s)))
 
 -- What holds of every row after a tick: the rows that stay give it, and so does the row served.
-pub tick_all : (P Q : Row → Type 0) (after : ℕ) (rows : List Row) → ((r : Row) → P r → Q r) → ((r : Row) → Has rows r → 0 < r.left → P r → Q (served after r)) → All P rows → All Q (ticked_rows after rows)
+pub tick_all : (P Q : Row → Type 0) (after : ℕ) (rows : List Row) → ((r : Row) → P r → Q r) → ((r : Row) → ContainsAt rows r → 0 < r.left → P r → Q (served after r)) → AllByRecursion P rows → AllByRecursion Q (ticked_rows after rows)
 tick_all P Q after rows stays changes all =
-    by_tick after rows (All Q)
+    by_tick after rows (AllByRecursion Q)
     (λ all_done. others)
     (λ d s first.
     let has = served-has d rows s in
     All-set Q rows s.place _ (changes s.row has s.working (all-has P rows s.row all has)) others)
   where
-    others : All Q rows
+    others : AllByRecursion Q rows
     others = All-weaker P Q stays rows all
 
 -- A tick changes no job.

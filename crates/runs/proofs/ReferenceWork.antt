@@ -2,7 +2,7 @@
 -- at most the ticks since a; so the budgets of those that are over by b are never more than the ticks of [a, b).
 -- If no job is missed once all deadlines have come, all of those are over by b, and their budgets are the whole demand.
 use Rattle.std.proofs.Common.{◌≡◌, ℕ, ◌+◌, ◌-◌, ◌<◌, ◌≤◌, Bool, true, false, cond, eqb, leb, ◌⊎◌, List, [], ◌∷◌, map, Some, None, sum_by, Option, refl, inl, inr, ⊎_elim, arith}
-use Rattle.std.specs.List.{ContainsAt as Has, AllByRecursion as All}
+use Rattle.std.specs.List.{ContainsAt, AllByRecursion}
 use Rattle.std.proofs.lemmas.Bool.{cond_both, cond-true, leb-true, le-leb, and_parts, cases_lt}
 use Rattle.std.proofs.ByRecursion.{All-weaker, all-has}
 use Rattle.std.proofs.lemmas.List.Sums.{sum_by_push}
@@ -86,7 +86,7 @@ module _ (a b : ℕ) where
       all-regular : AllRegular (step s ticked)
       all-regular = regular_ticked s f.regular
 
-      one_more : (r : Row) → Has s.rows r → within a b done (served (s.clock + 1) r) ≤ within a b done r + ((s.clock + 1 - a) - (s.clock - a))
+      one_more : (r : Row) → ContainsAt s.rows r → within a b done (served (s.clock + 1) r) ≤ within a b done r + ((s.clock + 1 - a) - (s.clock - a))
       one_more r has =
           within-le (inside a b r.job) (done (served (s.clock + 1) r)) (done r) _
           (λ e. omega (arith, (inside-parts a b r e).0, (all-has _ s.rows r f.regular has).0))
@@ -94,7 +94,7 @@ module _ (a b : ℕ) where
       soon : s.clock + 1 ≤ b → sum_by (within a b done) rows' ≤ s.clock + 1 - a
       soon h = omega (arith, f.so_far (omega arith), tick_sum_le (within a b done) ((s.clock + 1 - a) - (s.clock - a)) (s.clock + 1) s.rows one_more)
 
-      no_more : b < s.clock + 1 → (r : Row) → Has s.rows r → within a b (over b) (served (s.clock + 1) r) ≤ within a b (over b) r + 0
+      no_more : b < s.clock + 1 → (r : Row) → ContainsAt s.rows r → within a b (over b) (served (s.clock + 1) r) ≤ within a b (over b) r + 0
       no_more h r has =
           within-le (inside a b r.job) (over b (served (s.clock + 1) r)) (over b r) 0
           (λ e. omega (arith, paid-served b (s.clock + 1) r.left r.job.budget r.end h))
@@ -112,7 +112,7 @@ module _ (a b : ℕ) where
   always-fits calls sound = run-keeps Fits released-fits ticked-fits calls fresh sound fresh-fits
 
 -- Every deadline has come by the last one.
-pub due-by_last : (rows : List Row) → All (λ r. r.job.deadline ≤ last_deadline (map (λ r. r.job) rows)) rows
+pub due-by_last : (rows : List Row) → AllByRecursion (λ r. r.job.deadline ≤ last_deadline (map (λ r. r.job) rows)) rows
 due-by_last [] = tt
 due-by_last (r ∷ rows) = (omega arith, All-weaker _ _ (λ x due. omega arith) rows (due-by_last rows))
 
@@ -121,7 +121,7 @@ over-by_or_not d None = inr (λ h. h)
 over-by_or_not d (Some end) = ⊎_elim (λ late. inr (λ early. omega arith)) inl (cases_lt d end)
 
 -- Where every job is over by its deadline, no interval demands more ticks than it has.
-pub in_time_fits : (a b : ℕ) (s : Reference) → Fits a b s → All (λ r. OverBy r.job.deadline r.end) s.rows → demand (jobs s) a b ≤ b - a
+pub in_time_fits : (a b : ℕ) (s : Reference) → Fits a b s → AllByRecursion (λ r. OverBy r.job.deadline r.end) s.rows → demand (jobs s) a b ≤ b - a
 in_time_fits a b s f in_time =
     omega (arith, f.in_all, demand-of_rows s.rows a b, sum_mono budgets (within a b (over b)) s.rows (All-weaker _ _ whole s.rows in_time))
   where

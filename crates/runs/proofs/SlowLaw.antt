@@ -1,7 +1,7 @@
 -- The law over whole runs: the slowed run is never behind the reference run, and its bounds hold.
 use Rattle.std.proofs.Common.{◌≡◌, ℕ, ◌+◌, ◌-◌, ◌≤◌, Bool, true, false, cond, List, [], ◌∷◌, map, Some, None, Option, sym, refl, ◌∙◌, subst, subst₂, arith}
 use mathlib.Core.Path.{subst₃}
-use Rattle.std.specs.List.{AllByRecursion as All}
+use Rattle.std.specs.List.{AllByRecursion}
 use Rattle.runs.specs.ReferenceRun
 use Rattle.runs.specs.SlowRun
 use Rattle.runs.specs.SlowRun.{Call, arrival, tick, waiting, running, aside, over, Slow, SlowRow, pending, runs, somebody_runs, first, ticked}
@@ -150,7 +150,7 @@ invariant_always cs p = invariant_run both_fresh cs p (record { stack = tt; hand
 abbrev RowAgrees : Both → Type 0
 RowAgrees r = NotBehind (slow_row r).stage (reference_row r).end
 
-stack_agrees : (f : Bool) (t E W Q : ℕ) (rs : List Both) → Stack t f E W Q rs → All RowAgrees rs
+stack_agrees : (f : Bool) (t E W Q : ℕ) (rs : List Both) → Stack t f E W Q rs → AllByRecursion RowAgrees rs
 stack_agrees f t E W Q [] s = tt
 stack_agrees f t E W Q (row j l e waiting ∷ rs) s = (s.1, stack_agrees f t E (W + l) (Q + l) rs s.2)
 stack_agrees true t E W Q (row j l e (running b) ∷ rs) s = (s.1, stack_agrees false t b W (Q + l) rs s.2)
@@ -159,7 +159,7 @@ stack_agrees true t E W Q (row j l e (aside b n) ∷ rs) s = absurd s
 stack_agrees false t E W Q (row j l e (aside b n) ∷ rs) s = (s.1, stack_agrees false t (b + E - n) W (Q + l) rs s.2)
 stack_agrees f t E W Q (row j l e (over s₁ b) ∷ rs) s = (s.1, stack_agrees f t E W (Q + l) rs s.2)
 
-rows_agree : (rs : List Both) → All RowAgrees rs → RowsAgree (map slow_row rs) (map reference_row rs)
+rows_agree : (rs : List Both) → AllByRecursion RowAgrees rs → RowsAgree (map slow_row rs) (map reference_row rs)
 rows_agree [] h = tt
 rows_agree (row j l e st ∷ rs) h = (refl, h.0, rows_agree rs h.1)
 

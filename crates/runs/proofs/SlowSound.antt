@@ -1,6 +1,6 @@
 -- What holds in every slowed run by itself, read off the invariant.
 use Rattle.std.proofs.Common.{◌≡◌, ℕ, ◌+◌, ◌-◌, ◌<◌, ◌≤◌, Bool, true, false, cond, List, [], ◌∷◌, map, Some, None, Option, sym, refl, ap, ◌∙◌, subst, arith}
-use Rattle.std.specs.List.{AllByRecursion as All}
+use Rattle.std.specs.List.{AllByRecursion}
 use Rattle.std.proofs.ByRecursion.{All-map}
 use Rattle.cues.specs.Demand.{Job}
 use Rattle.runs.specs.SlowRun
@@ -30,7 +30,7 @@ stack_bounds :
     → t ≤ Q
     → Q + summed budget_of rs ≤ L
     → Stack t f E W Q rs
-    → All (λ r. BoundsHold t L (slow_row r).stage) rs
+    → AllByRecursion (λ r. BoundsHold t L (slow_row r).stage) rs
 stack_bounds f t E W Q L [] q h s = tt
 stack_bounds f t E W Q L (row j l e waiting ∷ rs) q h s =
     (tt, stack_bounds f t E (W + l) (Q + l) L rs (omega arith) (omega (arith, s.0)) s.2)
@@ -48,7 +48,7 @@ stack_resumable :
     (t H E W Q : ℕ) (rs : List Both)
     → (t ≤ E → t ≤ H)
     → Stack t false E W Q rs
-    → All (λ r. Resumable t H (slow_row r).stage) rs
+    → AllByRecursion (λ r. Resumable t H (slow_row r).stage) rs
 stack_resumable t H E W Q [] h s = tt
 stack_resumable t H E W Q (row j l e waiting ∷ rs) h s = (tt, stack_resumable t H E (W + l) (Q + l) rs h s.2)
 stack_resumable t H E W Q (row j l e (running b) ∷ rs) h s = absurd s

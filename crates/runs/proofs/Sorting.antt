@@ -1,6 +1,6 @@
 -- The jobs in order of acceptance, sorted by priority: what sorting commutes with, and what it keeps.
 use Rattle.std.proofs.Common.{◌≡◌, ℕ, ◌+◌, ◌<◌, ◌≤◌, Bool, true, false, cond, ◌&&◌, eqb, leb, List, [], ◌∷◌, ◌++◌, map, Some, None, Option, sym, refl, ap, ◌∙◌, subst, arith}
-use Rattle.std.specs.List.{AllByRecursion as All}
+use Rattle.std.specs.List.{AllByRecursion}
 use Rattle.std.proofs.lemmas.Bool.{cond_both, both_ways, leb-true, leb-false, le-leb, eqb-true, eqb-false}
 use Rattle.runs.specs.ReferenceRun.{sooner}
 use Rattle.runs.specs.SlowRun.{Stage, SlowRow, earlier, first}
@@ -77,18 +77,18 @@ sorted-is_sorted [] = tt
 sorted-is_sorted (x ∷ xs) = place-sorted x (sorted xs) (sorted-is_sorted xs)
 
 -- What holds of all in the sorted list holds of all.
-all_place : (P : Both → Type 0) (x : Both) (l : List Both) → All P (place x l) → All P (x ∷ l)
+all_place : (P : Both → Type 0) (x : Both) (l : List Both) → AllByRecursion P (place x l) → AllByRecursion P (x ∷ l)
 all_place P x [] = λ h. h
 all_place P x (y ∷ ys) =
     cond_both
     (leb (due x) (due y))
     (x ∷ y ∷ ys)
     (y ∷ place x ys)
-    (λ l. All P l → All P (x ∷ y ∷ ys))
+    (λ l. AllByRecursion P l → AllByRecursion P (x ∷ y ∷ ys))
     (λ _ h. h)
     (λ _ h. ((all_place P x ys h.1).0, (h.0, (all_place P x ys h.1).1)))
 
-pub all_sorted : (P : Both → Type 0) (xs : List Both) → All P (sorted xs) → All P xs
+pub all_sorted : (P : Both → Type 0) (xs : List Both) → AllByRecursion P (sorted xs) → AllByRecursion P xs
 all_sorted P [] h = tt
 all_sorted P (x ∷ xs) h = ((all_place P x (sorted xs) h).0, all_sorted P xs (all_place P x (sorted xs) h).1)
 

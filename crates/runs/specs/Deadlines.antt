@@ -1,6 +1,6 @@
 -- Deadlines in the reference run: which calls make a sound run, and which jobs of it are missed.
 use Rattle.std.specs.Prelude.{ℕ, ◌+◌, ◌<◌, ◌≤◌, max, List, [], ◌∷◌, map, Some, None, Option}
-use Rattle.std.specs.List.{ContainsAt as Has}
+use Rattle.std.specs.List.{ContainsAt}
 use Rattle.cues.specs.Demand.{Job}
 use Rattle.runs.specs.ReferenceRun.{Accepted, released, ticked, Row, Reference}
 
@@ -30,4 +30,4 @@ Missed clock r = (r.job.deadline ≤ clock) × ¬ OverBy r.job.deadline r.end
 
 -- Some job of the run is missed.
 abbrev pub Misses : Reference → Type 0
-Misses s = (r : Row) × Has s.rows r × Missed s.clock r
+Misses s = (r : Row) × ContainsAt s.rows r × Missed s.clock r

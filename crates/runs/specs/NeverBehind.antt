@@ -1,6 +1,6 @@
 -- What is said of the slowed run: beside the reference run of the same calls, and by itself.
 use Rattle.std.specs.Prelude.{◌≡◌, ℕ, ◌+◌, ◌-◌, ◌<◌, ◌≤◌, Bool, true, false, cond, List, [], ◌∷◌, Some, None, Option}
-use Rattle.std.specs.List.{AllByRecursion as All}
+use Rattle.std.specs.List.{AllByRecursion}
 use Rattle.runs.specs.ReferenceRun.{Accepted, released, ticked, Row}
 use Rattle.runs.specs.SlowRun.{Call, arrival, tick, Stage, waiting, running, aside, over, Slow, SlowRow, pending, runs, somebody_runs, first, bound_of}
 
@@ -95,8 +95,8 @@ pub record Sound (s : Slow) : Type 0 where
   -- and it is the first of those that have started
   pub runs_first :
       somebody_runs s.rows ≡ true → (m : SlowRow) × (first started s.rows ≡ Some m) × (runs m.stage ≡ true)
-  pub bounds_hold : All (λ r. BoundsHold s.clock (s.clock + budgets s.rows) r.stage) s.rows
+  pub bounds_hold : AllByRecursion (λ r. BoundsHold s.clock (s.clock + budgets s.rows) r.stage) s.rows
   pub resumable :
-      somebody_runs s.rows ≡ false → All (λ r. Resumable s.clock s.handed_bound r.stage) s.rows
+      somebody_runs s.rows ≡ false → AllByRecursion (λ r. Resumable s.clock s.handed_bound r.stage) s.rows
   pub handed_holds : s.handed_bound ≤ s.clock + budgets s.rows
   pub chosen_well : ChosenWell s (first pending s.rows)

@@ -1,7 +1,7 @@
 -- What holds of every list of accepted calls: of the slowed run beside the reference run, and of the reference run beside
 -- the demand of its jobs.
 use Rattle.std.specs.Prelude.{◌≡◌, ◌≤◌, ◌↔◌, List, map}
-use Rattle.std.specs.List.{ContainsAt as Has}
+use Rattle.std.specs.List.{ContainsAt}
 use Rattle.cues.specs.Demand.{Feasible, Overloaded}
 use Rattle.runs.specs.ReferenceRun as reference
 use Rattle.runs.specs.SlowRun as slow
@@ -27,7 +27,7 @@ OverByDeadline =
     → deadlines.Sound 0 calls
     → Feasible (deadlines.jobs (reference.run reference.fresh calls))
     → (r : reference.Row)
-    → Has (reference.run reference.fresh calls).rows r
+    → ContainsAt (reference.run reference.fresh calls).rows r
     → r.job.deadline ≤ (reference.run reference.fresh calls).clock
     → deadlines.OverBy r.job.deadline r.end
 

@@ -1,6 +1,6 @@
 -- The place of the first pending job: which job stands there, how it is found, and what is put in its place.
 use Rattle.std.proofs.Common.{◌≡◌, ℕ, zero, suc, ◌<◌, ◌≤◌, Bool, true, false, cond, leb, List, [], ◌∷◌, ◌++◌, map, length, get_or, take, drop, set, Some, None, Option, unwrap_or, sym, refl, ap, ◌∙◌, subst, arith}
-use Rattle.std.specs.List.{remove, AllByRecursion as All}
+use Rattle.std.specs.List.{remove, AllByRecursion}
 use Rattle.std.proofs.ByRecursion.{All-get_or}
 use Rattle.std.proofs.lemmas.List.{get_or-map, length-map, map-set, nil_from_length, set-get_or, set_split}
 use Rattle.std.proofs.lemmas.Bool.{cond-true, cond-false, cond_both, leb-false, eq-eqb, ne_eqb}
@@ -59,7 +59,7 @@ pub first-stands : (js : List Job) (j : Job) → first_job js ≡ Some j → j �
 first-stands js j found = let here = first-job_at js j (first_some js j found) in cc
 
 -- What holds of every job holds of the first one.
-pub first-has : (P : Job → Type 0) (js : List Job) (j : Job) → first_job js ≡ Some j → All P js → P j
+pub first-has : (P : Job → Type 0) (js : List Job) (j : Job) → first_job js ≡ Some j → AllByRecursion P js → P j
 first-has P js j found all =
     subst P (sym (first-stands js j found)) (All-get_or P js (first_place js) j (first-within js (first_some js j found)) all)
 

@@ -1,7 +1,7 @@
 -- The pending jobs of a day beside the rows of the slowed run of the same calls: they are the rows that are not over, in
 -- their order, and what was told of each row is where it stands.
 use Rattle.std.proofs.Common.{◌≡◌, ℕ, suc, ◌+◌, ◌-◌, ◌*◌, ◌<◌, ◌≤◌, Bool, true, false, cond, ◌||◌, leb, ◌⊎◌, List, [], ◌∷◌, ◌++◌, length, is_some, Some, None, Option, sym, refl, ap, ◌∙◌, subst, ap₂, inl, inr, add-zero, arith}
-use Rattle.std.specs.List.{AllByRecursion as All}
+use Rattle.std.specs.List.{AllByRecursion}
 use Rattle.std.proofs.lemmas.Bool.{cond_both, leb-false}
 use Rattle.rates.specs.Table.{rate_of, top_rate}
 use Rattle.scheduler.specs.declared.job.Job.{Job}
@@ -245,8 +245,8 @@ module _ {rates : List ℕ} {clock : ℕ} {ends bounds : ℕ → Option ℕ} whe
       {n : ℕ} {rows : List SlowRow} {js : List Job} (P : SlowRow → Type 0) (Q : Job → Type 0)
       → ((n : ℕ) (r : SlowRow) (j : Job) → Same n r j → Fit rates clock j → P r → Q j)
       → Follows rates clock ends bounds n rows js
-      → All P rows
-      → All Q js
+      → AllByRecursion P rows
+      → AllByRecursion Q js
   follows-all P Q step finis h = tt
   follows-all P Q step (gone p t f) h = follows-all P Q step f h.1
   follows-all P Q step (here {n = n} {r = r} {j = j} s k t f) h =

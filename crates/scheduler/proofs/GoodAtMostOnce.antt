@@ -3,7 +3,7 @@ use Rattle.std.proofs.Common.{ℕ, List, [], ◌∷◌, Some, None, Option}
 use native.Mathlib.Bridge.{le_prop}
 use mathlib.Core.HLevel.{×_prop, ×₃_prop, Unit-prop}
 use mathlib.Core.Logic.{∥∥₁_elim, ∥∥₁_map}
-use Rattle.std.specs.List.{AllByRecursion as All}
+use Rattle.std.specs.List.{AllByRecursion}
 use Rattle.rates.specs.Lawful.{Lawful}
 use Rattle.scheduler.specs.declared.job.Job.{Job}
 use Rattle.scheduler.specs.declared.job.Stage.{Stage}
@@ -40,7 +40,7 @@ good_job_prop s j =
       on_pace = on_pace_prop _ _ _ j.stage x.on_pace y.on_pace i;
     }
 
-all_prop : {X : Type 0} (P : X → Type 0) → ((x : X) → IsProp (P x)) → (xs : List X) → IsProp (All P xs)
+all_prop : {X : Type 0} (P : X → Type 0) → ((x : X) → IsProp (P x)) → (xs : List X) → IsProp (AllByRecursion P xs)
 all_prop P p [] = Unit-prop
 all_prop P p (x ∷ xs) = ×_prop (p x) (all_prop P p xs)
 

@@ -1,7 +1,7 @@
 -- What holds of every day that some list of calls leads to: its numbers are small, its jobs are numbered in order, and the
 -- job that the next tick chooses can be done in time.
 use Rattle.std.specs.Prelude.{ℕ, ◌+◌, ◌-◌, ◌*◌, ◌<◌, ◌≤◌, cond, List, [], ◌∷◌, length, Some, None, Option}
-use Rattle.std.specs.List.{AllByRecursion as All}
+use Rattle.std.specs.List.{AllByRecursion}
 use Rattle.rates.specs.Table.{rate_of, top_rate}
 use Rattle.scheduler.specs.declared.job.Job.{Job}
 use Rattle.scheduler.specs.declared.job.Stage.{Stage}
@@ -51,5 +51,5 @@ pub record Good (s : DayState) : Type 0 where
   pub few : length s.pending ≤ 64
   pub one_runs : running s.pending ≤ 1
   pub numbered : Numbered 0 s.accepted s.pending
-  pub jobs_good : All (GoodJob s) s.pending
+  pub jobs_good : AllByRecursion (GoodJob s) s.pending
   pub chosen_good : ChosenGood s (first_job s.pending)

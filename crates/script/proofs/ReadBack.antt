@@ -3,7 +3,7 @@ use Rattle.std.proofs.Common.{◌≡◌, ℕ, ◌+◌, ◌^◌, ◌<◌, ◌≤�
 use Rattle.std.proofs.ByRecursion.{All-push}
 use Rattle.std.proofs.lemmas.List.{map-append, append-nil}
 use Rattle.std.proofs.lemmas.Bool.{cond_both, eqb-true, leb-true}
-use Rattle.std.specs.List.{AllByRecursion as All}
+use Rattle.std.specs.List.{AllByRecursion}
 use Rattle.words.specs.declared.Kind.TheVariants.{Deadline, Budget, Spent, Rate, End}
 use Rattle.words.specs.Words.{is, payload, word}
 use Rattle.words.proofs.WordParts.{word-of_kind}
@@ -18,7 +18,7 @@ record CallsRead (rates : List ℕ) (before : List Call) (ticks : ℕ) (left : L
   same_rates : c.rates ≡ rates
   same_words : left ≡ words_behind_rates items c.tape
   same_calls : c.calls ≡ before ++ item_calls items
-  items_fit : All FitsWords items
+  items_fit : AllByRecursion FitsWords items
   tape_fits : length c.tape < 2 ^ 28
   few_ticks : ticks ≤ 1000000 → ticks + ticks_in items ≤ 1000000
 
@@ -106,8 +106,8 @@ record RatesRead (before left : List ℕ) (c : Contents) : Type 0 where
   items : List Item
   same_words : map (word Rate) before ++ left ≡ map (word Rate) c.rates ++ words_behind_rates items c.tape
   same_calls : c.calls ≡ item_calls items
-  rates_fit : All (λ rate. rate < 2 ^ 28) before → All (λ rate. rate < 2 ^ 28) c.rates
-  items_fit : All FitsWords items
+  rates_fit : AllByRecursion (λ rate. rate < 2 ^ 28) before → AllByRecursion (λ rate. rate < 2 ^ 28) c.rates
+  items_fit : AllByRecursion FitsWords items
   tape_fits : length c.tape < 2 ^ 28
   few_ticks : ticks_in items ≤ 1000000
 
@@ -117,7 +117,7 @@ rates_then_calls rates ws c r =
       items = r.items;
       same_words = ap (λ rs. map (word Rate) rs ++ ws) (sym r.same_rates) ∙ ap (λ left. map (word Rate) c.rates ++ left) r.same_words;
       same_calls = r.same_calls;
-      rates_fit = subst (λ rs. All (λ rate. rate < 2 ^ 28) rates → All (λ rate. rate < 2 ^ 28) rs) (sym r.same_rates) (λ fit. fit);
+      rates_fit = subst (λ rs. AllByRecursion (λ rate. rate < 2 ^ 28) rates → AllByRecursion (λ rate. rate < 2 ^ 28) rs) (sym r.same_rates) (λ fit. fit);
       items_fit = r.items_fit;
       tape_fits = r.tape_fits;
       few_ticks = omega (arith, r.few_ticks (omega arith));

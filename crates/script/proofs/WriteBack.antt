@@ -2,7 +2,7 @@
 use Rattle.std.proofs.Common.{◌≡◌, ℕ, ◌+◌, ◌^◌, ◌<◌, ◌≤◌, false, List, [], ◌∷◌, ◌++◌, map, length, replicate, None, Ok, sym, refl, ap, ◌∙◌, subst, append_assoc, arith}
 use Rattle.std.proofs.lemmas.List.{append-nil}
 use Rattle.std.proofs.lemmas.Bool.{cond-true, cond-false, eq-eqb, le-leb}
-use Rattle.std.specs.List.{AllByRecursion as All}
+use Rattle.std.specs.List.{AllByRecursion}
 use Rattle.words.specs.declared.Kind.TheVariants.{Deadline, Budget, Spent, Rate, End}
 use Rattle.words.specs.Words.{is, payload, word}
 use Rattle.words.proofs.WordParts.{is_word, payload-word}
@@ -37,7 +37,7 @@ ticks-back place rates before ticks count left fits few =
     ∙ cond-true _ _ _ (le-leb _ _ (subst (λ n. ticks + n ≤ 1000000) (sym same) few))
     ∙ ap (λ n. calls_from (place + 1) rates (before ++ replicate n Tick) (ticks + n) None left) same
 
-calls_back : (place : ℕ) (rates : List ℕ) (before : List Call) (ticks : ℕ) (items : List Item) (tape : List ℕ) → All FitsWords items → length tape < 2 ^ 28 → ticks + ticks_in items ≤ 1000000 → calls_from place rates before ticks None (words_behind_rates items tape) ≡ Ok (record { rates = rates; calls = before ++ item_calls items; tape = tape })
+calls_back : (place : ℕ) (rates : List ℕ) (before : List Call) (ticks : ℕ) (items : List Item) (tape : List ℕ) → AllByRecursion FitsWords items → length tape < 2 ^ 28 → ticks + ticks_in items ≤ 1000000 → calls_from place rates before ticks None (words_behind_rates items tape) ≡ Ok (record { rates = rates; calls = before ++ item_calls items; tape = tape })
 calls_back place rates before ticks [] tape fit tape_fits few =
     end_back place rates before ticks tape tape_fits ∙ ap (λ calls. Ok (record { rates = rates; calls = calls; tape = tape })) (sym (append-nil before))
 calls_back place rates before ticks (a_release deadline budget ∷ items) tape ((d-fits, b-fits), fit) tape_fits few =
@@ -50,7 +50,7 @@ calls_back place rates before ticks (some_ticks count ∷ items) tape (fits, fit
     ∙ ap (λ calls. Ok (record { rates = rates; calls = calls; tape = tape })) (append_assoc before (replicate count Tick) (item_calls items))
 
 -- The rates are read up to the first word of another kind.
-rates_back : (place : ℕ) (before rates : List ℕ) (x : ℕ) (left : List ℕ) (c : Contents) → All (λ rate. rate < 2 ^ 28) rates → is Rate x ≡ false → ((p : ℕ) → calls_from p (before ++ rates) [] 0 None (x ∷ left) ≡ Ok c) → rates_from place before (map (word Rate) rates ++ (x ∷ left)) ≡ Ok c
+rates_back : (place : ℕ) (before rates : List ℕ) (x : ℕ) (left : List ℕ) (c : Contents) → AllByRecursion (λ rate. rate < 2 ^ 28) rates → is Rate x ≡ false → ((p : ℕ) → calls_from p (before ++ rates) [] 0 None (x ∷ left) ≡ Ok c) → rates_from place before (map (word Rate) rates ++ (x ∷ left)) ≡ Ok c
 rates_back place before [] x left c fit other behind =
     cond-false _ _ _ other ∙ subst (λ all. calls_from place all [] 0 None (x ∷ left) ≡ Ok c) (append-nil before) (behind place)
 rates_back place before (rate ∷ rates) x left c (fits, fit) other behind =
@@ -59,7 +59,7 @@ rates_back place before (rate ∷ rates) x left c (fits, fit) other behind =
     ∙ rates_back (place + 1) (before ++ (rate ∷ [])) rates x left c fit other (λ p. subst (λ all. calls_from p all [] 0 None (x ∷ left) ≡ Ok c) (sym (append_assoc before (rate ∷ []) rates)) (behind p))
 
 -- The items, or the end, begin with a word that is no rate.
-script_back : (rates tape : List ℕ) (items : List Item) → All (λ rate. rate < 2 ^ 28) rates → All FitsWords items → length tape < 2 ^ 28 → ticks_in items ≤ 1000000 → rates_from 1 [] (map (word Rate) rates ++ words_behind_rates items tape) ≡ Ok (record { rates = rates; calls = item_calls items; tape = tape })
+script_back : (rates tape : List ℕ) (items : List Item) → AllByRecursion (λ rate. rate < 2 ^ 28) rates → AllByRecursion FitsWords items → length tape < 2 ^ 28 → ticks_in items ≤ 1000000 → rates_from 1 [] (map (word Rate) rates ++ words_behind_rates items tape) ≡ Ok (record { rates = rates; calls = item_calls items; tape = tape })
 script_back rates tape [] r-fit fit t-fits few =
     rates_back 1 [] rates _ _ _ r-fit (is_word Rate End (length tape) t-fits) (λ p. calls_back p rates [] 0 [] tape fit t-fits (omega arith))
 script_back rates tape (a_release deadline budget ∷ items) r-fit ((d-fits, b-fits), fit) t-fits few =

@@ -1,6 +1,6 @@
 -- A script as the words that write it, and which words are those of a script.
 use Rattle.std.specs.Prelude.{◌≡◌, ℕ, ◌+◌, ◌%◌, ◌^◌, ◌<◌, ◌≤◌, List, [], ◌∷◌, ◌++◌, map, length, replicate, Ok, Err, Result}
-use Rattle.std.specs.List.{AllByRecursion as All}
+use Rattle.std.specs.List.{AllByRecursion}
 use Rattle.words.specs.declared.Kind.TheVariants.{Edition, Deadline, Budget, Spent, Rate, End}
 use Rattle.words.specs.Words.{word, whole}
 use Rattle.calls.specs.declared.call.Call.{Call}
@@ -48,8 +48,8 @@ pub record WordsOf (words : List ℕ) (c : Contents) : Type 0 where
   pub items : List Item
   pub same_words : words ≡ word Edition 1 ∷ (map (word Rate) c.rates ++ words_behind_rates items c.tape)
   pub same_calls : c.calls ≡ item_calls items
-  pub rates_fit : All (λ rate. rate < 2 ^ 28) c.rates
-  pub items_fit : All FitsWords items
+  pub rates_fit : AllByRecursion (λ rate. rate < 2 ^ 28) c.rates
+  pub items_fit : AllByRecursion FitsWords items
   pub tape_fits : length c.tape < 2 ^ 28
   pub few_ticks : ticks_in items ≤ 1000000
 

@@ -3,7 +3,7 @@ use Rattle.std.proofs.Common.{◌≡◌, ℕ, ◌+◌, ◌-◌, ◌<◌, ◌≤�
 use Rattle.std.proofs.ByRecursion.{All-push}
 use Rattle.std.proofs.lemmas.List.{map-append}
 use Rattle.std.proofs.lemmas.Bool.{cond_both, eqb-true}
-use Rattle.std.specs.List.{AllByRecursion as All}
+use Rattle.std.specs.List.{AllByRecursion}
 use Rattle.rates.specs.declared.refusal.TableRefusal.{TableRefusal}
 use Rattle.rates.specs.Judged.{judged}
 use Rattle.rates.specs.Lawful.{Lawful}
@@ -21,7 +21,7 @@ use Rattle.sheet.proofs.CueBounds.{fault_is_no_sheet, taken_where_read}
 pub record CuesRead (rates : List ℕ) (before : List Entry) (left : List ℕ) (c : Contents) : Type 0 where
   pub same_rates : c.rates ≡ rates
   pub same_words : cue_words before ++ left ≡ words_behind_table c
-  pub sound : All SoundCue before → All SoundCue c.entries
+  pub sound : AllByRecursion SoundCue before → AllByRecursion SoundCue c.entries
   pub few : length before ≤ 1024 → length c.entries ≤ 1024
 
 -- The words of a cue that were read already, in front of those that are left.

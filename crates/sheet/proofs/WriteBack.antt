@@ -2,7 +2,7 @@
 use Rattle.std.proofs.Common.{◌≡◌, ℕ, ◌+◌, ◌^◌, ◌<◌, ◌≤◌, false, List, [], ◌∷◌, ◌++◌, map, length, Some, None, Ok, Option, sym, refl, ap, ◌∙◌, subst, append_assoc, append-nil, arith, length-append}
 use Rattle.std.proofs.ByRecursion.{All-from_get_or}
 use Rattle.std.proofs.lemmas.Bool.{cond-true, cond-false, eq-eqb}
-use Rattle.std.specs.List.{AllByRecursion as All}
+use Rattle.std.specs.List.{AllByRecursion}
 use Rattle.rates.specs.declared.refusal.TableRefusal.{TableRefusal}
 use Rattle.rates.specs.Judged.{judged, Verdict}
 use Rattle.rates.specs.Lawful.{Lawful}
@@ -40,7 +40,7 @@ cue_back place rates before e left s room =
     ∙ ap (λ x. cue_taken place before x (cues_from (place + 4) rates (before ++ (x ∷ [])) none left)) (same_entry e s)
     ∙ taken_back place before e _ s room
 
-cues_back : (place : ℕ) (rates : List ℕ) (before entries : List Entry) → All SoundCue entries → length (before ++ entries) ≤ 1024 → cues_from place rates before none (cue_words entries ++ (word End (length (before ++ entries)) ∷ [])) ≡ Ok (record { rates = rates; entries = before ++ entries })
+cues_back : (place : ℕ) (rates : List ℕ) (before entries : List Entry) → AllByRecursion SoundCue entries → length (before ++ entries) ≤ 1024 → cues_from place rates before none (cue_words entries ++ (word End (length (before ++ entries)) ∷ [])) ≡ Ok (record { rates = rates; entries = before ++ entries })
 cues_back place rates before [] sound few =
     subst (λ all. cues_from place rates before none (word End (length all) ∷ []) ≡ Ok (record { rates = rates; entries = all })) (sym (append-nil before))
     (end_back place rates before (omega (arith, length-append before [])))
@@ -51,7 +51,7 @@ cues_back place rates before (e ∷ es) (s, sound) few =
     (cues_back (place + 4) rates (before ++ (e ∷ [])) es sound (subst (λ all. length all ≤ 1024) (sym joined) few))
 
 -- The rates are read up to the first word of another kind, where the table is judged.
-rates_back : (place : ℕ) (before rates : List ℕ) (x : ℕ) (left : List ℕ) (c : Contents) → All (λ rate. rate ≤ 4095) rates → is Rate x ≡ false → ((p : ℕ) → table_judged p (before ++ rates) (x ∷ left) ≡ Ok c) → rates_from place before (map (word Rate) rates ++ (x ∷ left)) ≡ Ok c
+rates_back : (place : ℕ) (before rates : List ℕ) (x : ℕ) (left : List ℕ) (c : Contents) → AllByRecursion (λ rate. rate ≤ 4095) rates → is Rate x ≡ false → ((p : ℕ) → table_judged p (before ++ rates) (x ∷ left) ≡ Ok c) → rates_from place before (map (word Rate) rates ++ (x ∷ left)) ≡ Ok c
 rates_back place before [] x left c limited other judge =
     cond-false _ _ _ other ∙ subst (λ all. table_judged place all (x ∷ left) ≡ Ok c) (append-nil before) (judge place)
 rates_back place before (rate ∷ rates) x left c (low, limited) other judge =
@@ -67,7 +67,7 @@ not-refused_when_lawful rates lawful = by-verdict (judged rates) refl (verdict r
     by-verdict None is right = is
     by-verdict (Some refusal) is wrong = absurd (wrong.1 lawful)
 
-limited_rates : (rates : List ℕ) → Lawful rates → All (λ rate. rate ≤ 4095) rates
+limited_rates : (rates : List ℕ) → Lawful rates → AllByRecursion (λ rate. rate ≤ 4095) rates
 limited_rates rates lawful = All-from_get_or (λ rate. rate ≤ 4095) rates 0 lawful.limited
 
 judged-back : (rates : List ℕ) (entries : List Entry) → Sound (record { rates = rates; entries = entries }) → (p : ℕ) → table_judged p rates (cue_words entries ++ (word End (length entries) ∷ [])) ≡ Ok (record { rates = rates; entries = entries })

@@ -1,6 +1,6 @@
 -- A sheet as the words that write it, and which sheets are sound.
 use Rattle.std.specs.Prelude.{◌≡◌, ℕ, ◌%◌, ◌^◌, ◌<◌, ◌≤◌, List, [], ◌∷◌, ◌++◌, map, length, Ok, Err, Result}
-use Rattle.std.specs.List.{AllByRecursion as All}
+use Rattle.std.specs.List.{AllByRecursion}
 use Rattle.words.specs.declared.Kind.TheVariants.{Edition, Release, Deadline, Budget, Spent, Rate, End}
 use Rattle.words.specs.Words.{word, whole}
 use Rattle.rates.specs.Lawful.{Lawful}
@@ -35,7 +35,7 @@ pub record SoundCue (e : Entry) : Type 0 where
 -- A sound sheet: a lawful table, and at most 1,024 cues, all of them sound.
 pub record Sound (c : Contents) : Type 0 where
   pub table : Lawful c.rates
-  pub cues : All SoundCue c.entries
+  pub cues : AllByRecursion SoundCue c.entries
   pub few : length c.entries ≤ 1024
 
 -- Words are read exactly where they are the words of a sound sheet, and then as that sheet; refused words are those of none.
