@@ -45,7 +45,7 @@ fn sorted_by_deadline(cues: &[Cue], heap: Global) -> Result<Vec<Due>, AllocError
     for cue in cues {
         dues.push(Due { cue: *cue })?;
     }
-    dues.sort()?;
+    dues.sort_unstable();
     Ok(dues)
 }
 

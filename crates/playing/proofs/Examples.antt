@@ -11,7 +11,7 @@ use Rattle.cues.proofs.Admission.{feasible_from_loading}
 use Rattle.cues.proofs.Greatest.{interval, greatest-from-unbeaten}
 use Rattle.cues.proofs.Intervals.{Timely}
 use Rattle.rates.specs.Policy.{Sufficient}
-use Rattle.playing.specs.Examples.{job, ReferenceEnds, LoadingFactors, HandedBounds, LastTicks, Admissions, WorkedExamples}
+use Rattle.playing.specs.Examples.{job, ReferenceEnds, LoadingFactors, HandedBounds, LastTicks, Admissions, CrowdedOut, TapedTicks, WorkedExamples}
 
 reference-ends : ReferenceEnds
 reference-ends = refl
@@ -34,6 +34,12 @@ handed-bounds = (
 
 last-ticks : LastTicks
 last-ticks = (
+  ((refl, ((refl, (refl, two_ticks)), ((refl, (refl, tt)), tt))), refl, refl),
+  ((refl, ((refl, (refl, two_ticks)), ((refl, (refl, tt)), tt))), refl, refl),
+)
+
+taped-ticks : TapedTicks
+taped-ticks = (
   ((refl, ((refl, (refl, two_ticks)), ((refl, (refl, tt)), tt))), refl, refl),
   ((refl, ((refl, (refl, two_ticks)), ((refl, (refl, tt)), tt))), refl, refl),
 )
@@ -117,8 +123,10 @@ loading_factors : LoadingFactors
 loading_factors = (
   loading-by-trial _ _ (share_of 27 30 0 30) (omega arith) (0, omega arith, λ _. refl) (5, omega arith, λ _. refl) refl (omega arith) refl,
   loading-by-trial _ _ (share_of 10 9 5 14) (omega arith) (1, omega arith, λ _. refl) (2, omega arith, λ _. refl) refl (omega arith) refl,
-  (5, 14, omega arith, omega arith),
 )
+
+crowded-out : CrowdedOut
+crowded-out = (5, 14, omega arith, omega arith)
 
 exactly_full : Loading (job 0 3 3 ∷ []) 3 3 0 3
 exactly_full =
@@ -138,4 +146,4 @@ admissions =
     (feasible_from_loading (job 0 3 3 ∷ []) 3 3 0 3 exactly_full (omega arith), (0, 3, omega arith, omega arith))
 
 pub worked_examples : WorkedExamples
-worked_examples = (reference-ends, loading_factors, (refl, refl, refl, refl), handed-bounds, last-ticks, admissions)
+worked_examples = (reference-ends, loading_factors, (refl, refl, refl, refl), handed-bounds, last-ticks, admissions, crowded-out, taped-ticks)

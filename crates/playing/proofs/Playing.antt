@@ -68,6 +68,15 @@ exchanges-push (c ∷ calls) (q ∷ replies) call reply e =
     let shorter : length calls ≡ length replies = omega arith in
     ap (λ xs. (c, q) ∷ xs) (exchanges-push calls replies call reply shorter)
 
+-- One call more is answered rightly.
+pub answered_more : (s t u : Recorded) (h h' h'' : Heard) (xs : List Exchange) (call : Call) (reply : Reply) → SoFar s t h h' xs → Answered t u h' h'' call reply → SoFar s u h h'' (xs ++ ((call, reply) ∷ []))
+answered_more s t u h h' h'' xs call reply far one =
+    record {
+      right = all_right_push s xs (call, reply) far.right (subst (λ r. Right r call reply) far.after one.right);
+      after = one.after ∙ ap (λ r. next r call reply) far.after ∙ sym (played-push s xs (call, reply));
+      asked = one.asked ∙ ap (λ g. heard_reply g reply) far.asked ∙ sym (heard-push h xs (call, reply));
+    }
+
 -- The calls so far were answered rightly, and each met policy and renderer as the one before it left them.
 pub record GoneOn {P R : Type 0} (asks : P → List ℕ → ℕ → ℕ → Option ℕ → P → Type 0) (runs : R → ℕ → ℕ → Answer → R → Type 0) (s t : Recorded) (h h' : Heard) (p p' : P) (r r' : R) (xs : List Exchange) : Type 0 where
   pub so_far : SoFar s t h h' xs
@@ -87,12 +96,7 @@ gone_on_more asks runs s t u h h' h'' p p' p'' r r' r'' xs call reply gone one a
     let x : Exchange = (call, reply) in
     let far = gone.so_far in
     record {
-      so_far =
-          record {
-            right = all_right_push s xs x far.right (subst (λ q. Right q call reply) far.after one.right);
-            after = one.after ∙ ap (λ q. next q call reply) far.after ∙ sym (played-push s xs x);
-            asked = one.asked ∙ ap (λ g. heard_reply g reply) far.asked ∙ sym (heard-push h xs x);
-          };
+      so_far = answered_more s t u h h' h'' xs call reply far one;
       asked = asked_push asks s xs x p p' p'' gone.asked (subst (λ q. AskedIn asks q.day reply p' p'') far.after asked);
       run = run-push runs xs x r r' r'' gone.run run;
     }
@@ -146,3 +150,6 @@ pub gone_on_as :
     → GoneOn asks runs s t h h' p p' r r' ys
 gone_on_as {asks = asks} {runs = runs} {s = s} {t = t} {h = h} {h' = h'} {p = p} {p' = p'} {r = r} {r' = r'} e gone =
     subst (GoneOn asks runs s t h h' p p' r r') e gone
+
+pub so_far_as : {s t : Recorded} {h h' : Heard} {xs ys : List Exchange} → xs ≡ ys → SoFar s t h h' xs → SoFar s t h h' ys
+so_far_as {s} {t} {h} {h'} e far = subst (SoFar s t h h') e far

@@ -45,16 +45,15 @@ ReferenceEnds =
     map (λ r. r.end) (run fresh evening).rows
     ≡ (Some 4 ∷ Some 12 ∷ Some 8 ∷ Some 16 ∷ Some 27 ∷ Some 24 ∷ [])
 
--- Three jobs that demand more than there is time for.
-abbrev crowded : List Job
-crowded = job 3 18 4 ∷ job 5 12 4 ∷ job 6 14 6 ∷ []
-
--- The loading factor of the six jobs in the order of their sheet, and of the crowded three, which are refused for it.
+-- The loading factor of these jobs in the order of their sheet, and of three jobs that demand more than there is time for.
 abbrev pub LoadingFactors : Type 0
 LoadingFactors =
     Loading (job 0 7 4 ∷ job 6 9 2 ∷ job 3 15 6 ∷ job 10 18 4 ∷ job 20 26 4 ∷ job 11 30 7 ∷ []) 27 30 0 30
-    × Loading crowded 10 9 5 14
-    × Overloaded crowded
+    × Loading (job 3 18 4 ∷ job 5 12 4 ∷ job 6 14 6 ∷ []) 10 9 5 14
+
+-- Some interval demands more of these three than it has, so that they are refused.
+abbrev pub CrowdedOut : Type 0
+CrowdedOut = Overloaded (job 3 18 4 ∷ job 5 12 4 ∷ job 6 14 6 ∷ [])
 
 -- A table with one level, at 14 units a tick.
 abbrev one_level : DayState
@@ -91,17 +90,24 @@ HandedBounds =
     LeadsTo (arrived 10 5 ∷ started 5 answer.Finished (Some ending.Finished) ∷ arrived 10 2 ∷ []) 1 (Some 7)
     × LeadsTo (arrived 10 5 ∷ started 5 answer.Finished (Some ending.Finished) ∷ arrived 9 2 ∷ []) 1 (Some 3)
 
+-- A budget of 2 at the top rate is cut at 2 where the renderer goes on running, and is finished where it says so in that
+-- last tick. No job is pending then.
+abbrev pub LastTicks : Type 0
+LastTicks =
+    LeadsTo (arrived 10 2 ∷ started 2 answer.Running None ∷ went_on answer.Running (Some ending.Cut) ∷ []) 2 None
+    × LeadsTo (arrived 10 2 ∷ started 2 answer.Running None ∷ went_on answer.Finished (Some ending.Finished) ∷ []) 2 None
+
 -- A job with a budget of 2 runs twice at the top rate, answered by a tape, and is over then.
 abbrev TwoTicks : List ℕ → Ending → Type 0
 TwoTicks tape over = LeadsTo (arrived 10 2 ∷ started 2 (taped tape 0) None ∷ went_on (taped tape 1) (Some over) ∷ []) 2 None
 
 -- On an empty tape it is cut at 2, and it is finished where the tape says so in that last tick.
-abbrev pub LastTicks : Type 0
-LastTicks = TwoTicks [] ending.Cut × TwoTicks (word kind.Edition 0 ∷ word kind.Finished 0 ∷ []) ending.Finished
+abbrev pub TapedTicks : Type 0
+TapedTicks = TwoTicks [] ending.Cut × TwoTicks (word kind.Edition 0 ∷ word kind.Finished 0 ∷ []) ending.Finished
 
 -- From 0 to 3 a budget of 3 fits, and one of 4 does not.
 abbrev pub Admissions : Type 0
 Admissions = Feasible (job 0 3 3 ∷ []) × Overloaded (job 0 3 4 ∷ [])
 
 abbrev pub WorkedExamples : Type 0
-WorkedExamples = ReferenceEnds × LoadingFactors × LeastExamples least × HandedBounds × LastTicks × Admissions
+WorkedExamples = ReferenceEnds × LoadingFactors × LeastExamples least × HandedBounds × LastTicks × Admissions × CrowdedOut × TapedTicks

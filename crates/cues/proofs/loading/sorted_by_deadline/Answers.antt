@@ -16,9 +16,9 @@ loop-cue-preserved c =
 pub returns : goal.returns
 returns c =
     let cues = c.args.cues.now in
-    let dues = vec_items c.sort.new.self in
+    let dues = vec_items c.sort_unstable.new.self in
     let all : vec_items c.loop-cue.dues ≡ map due_of cues = c.loop-cue.invariant ∙ ap (map due_of) (take_all c.loop-cue.cue-index cues c.loop-cue-test.false) in
     record {
-      same = subst (λ xs. IsPermutation xs dues) all c.in_ok-sort.ensures.permutation;
-      rising = IsNonDecreasingBy-from_sort (λ due. due.cue.deadline) dues c.in_ok-sort.ensures.sorted;
+      same = subst (λ xs. IsPermutation xs dues) all c.sort_unstable.ensures.permutation;
+      rising = IsNonDecreasingBy-from_sort (λ due. due.cue.deadline) dues c.sort_unstable.ensures.sorted;
     }
