@@ -5,4 +5,3 @@ pub mod Greatest
 pub mod Deadlines
 pub mod Factor
 pub mod Admission
-pub mod Limits

@@ -60,7 +60,7 @@ fn answer<P: Policy, R: Renderer, T: Trace>(
     renderer: &mut R,
     trace: &mut T,
 ) -> Reply
-    ensures day { Answered (record { day = model day.entry.now; page = T.Trace.page trace.old }) (record { day = model day.exit.now; page = T.Trace.page trace.new }) (R.Renderer.meaning renderer.old) (R.Renderer.meaning renderer.new) call result }
+    ensures day { Answered (record { day = model day.old; page = T.Trace.page trace.old }) (record { day = model day.new; page = T.Trace.page trace.new }) (R.Renderer.meaning renderer.old) (R.Renderer.meaning renderer.new) call result }
     ensures policy { AskedIn P.Policy.tells (model day.old) result policy.old policy.new }
     ensures renderer { RunIn R.Renderer.tells result renderer.old renderer.new }
 {

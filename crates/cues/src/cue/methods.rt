@@ -1,6 +1,5 @@
 // Making a cue, and reading it.
 ghost use Rattle.std.specs.Prelude.{◌≡◌, Some, None, Ok, Err};
-ghost use Rattle.std.specs.Result.{result_err};
 ghost use Rattle.cues.specs.Cues.{cue_refusal, Holds};
 
 use super::Cue;
@@ -11,9 +10,9 @@ impl Cue {
 
     pub const LATEST_DEADLINE: u32 = 134_217_727;
 
-    /// Checks the limits of a piece of work, a cue or a job: its budget first, and then its deadline.
-    pub fn check(release: u32, deadline: u32, budget: u32) -> Result<(), CueRefusal>
-        ensures { result_err result ≡ cue_refusal release deadline budget }
+    /// A cue of these four numbers, unless its budget or else its deadline is out of bounds.
+    pub fn new(release: u32, deadline: u32, budget: u32, actual: u32) -> Result<Cue, CueRefusal>
+        ensures { elim result [ Ok c ↦ (cue_refusal release deadline budget ≡ None) × Holds c release deadline budget actual | Err e ↦ cue_refusal release deadline budget ≡ Some e ] }
     {
         if budget == 0 || budget > Cue::LARGEST_BUDGET {
             return Err(CueRefusal::Budget { budget });
@@ -21,14 +20,6 @@ impl Cue {
         if deadline <= release || deadline > Cue::LATEST_DEADLINE {
             return Err(CueRefusal::Deadline { deadline });
         }
-        Ok(())
-    }
-
-    /// A cue of these four numbers, unless its budget or else its deadline is out of bounds.
-    pub fn new(release: u32, deadline: u32, budget: u32, actual: u32) -> Result<Cue, CueRefusal>
-        ensures { elim result [ Ok c ↦ (cue_refusal release deadline budget ≡ None) × Holds c release deadline budget actual | Err e ↦ cue_refusal release deadline budget ≡ Some e ] }
-    {
-        Cue::check(release, deadline, budget)?;
         Ok(Cue {
             release,
             deadline,
