@@ -6,6 +6,7 @@ pub mod candidate;
 pub mod cue;
 mod due;
 pub mod list;
+pub mod load;
 mod loading;
 pub mod refusal;
 pub mod waiting;
