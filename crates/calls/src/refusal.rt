@@ -1,14 +1,16 @@
 //! Why a call of the day is refused. Each cause has a number and a value.
 ghost use Rattle.std.specs.Prelude.{◌≡◌};
 ghost use Rattle.calls.specs.Refusals.{number_of, value_of};
+ghost use Rattle.calls.specs.declared.refusal.Refusal.TheVariants as refusal;
+
+use cues::refusal::CueRefusal;
+use recorder::NoRoom;
 
 /// Why a call is refused.
 #[derive(Clone, Copy, PartialEq, Eq, Debug)]
 pub enum Refusal {
-    /// The budget is outside 1 to 65,535.
-    Budget { budget: u32 },
-    /// The deadline is not after the clock, or over 134,217,727.
-    Deadline { deadline: u32 },
+    /// No cue has this deadline and budget at this clock.
+    Job(CueRefusal),
     /// As many jobs are pending as may be.
     Pending { most: u32 },
     /// The accepted budgets would pass 134,217,727: holds their sum.
@@ -25,8 +27,7 @@ impl Refusal {
         ensures { result ≡ number_of self.now }
     {
         match self {
-            Refusal::Budget { .. } => 3,
-            Refusal::Deadline { .. } => 4,
+            Refusal::Job(refusal) => refusal.number(),
             Refusal::Pending { .. } => 5,
             Refusal::Budgets { .. } => 6,
             Refusal::Clock { .. } => 7,
@@ -39,12 +40,27 @@ impl Refusal {
         ensures { result ≡ value_of self.now }
     {
         match self {
-            Refusal::Budget { budget } => *budget as usize,
-            Refusal::Deadline { deadline } => *deadline as usize,
+            Refusal::Job(refusal) => refusal.value() as usize,
             Refusal::Pending { most } => *most as usize,
             Refusal::Budgets { sum } => *sum as usize,
             Refusal::Clock { clock } => *clock as usize,
             Refusal::Room { free } => *free,
         }
+    }
+}
+
+impl From<CueRefusal> for Refusal {
+    ghost from_gives = { λ cause r. r ≡ refusal.Job cause };
+
+    fn from(cause: CueRefusal) -> Refusal {
+        Refusal::Job(cause)
+    }
+}
+
+impl From<NoRoom> for Refusal {
+    ghost from_gives = { λ no_room r. r ≡ refusal.Room no_room.free };
+
+    fn from(no_room: NoRoom) -> Refusal {
+        Refusal::Room { free: no_room.free }
     }
 }

@@ -11,7 +11,7 @@ use Rattle.calls.specs.declared.ticked.Ending.{Ending}
 use Rattle.calls.specs.declared.ticked.Ticked.TheVariants.{Ran as ran}
 use Rattle.scheduler.specs.Chooses.{run_on}
 use Rattle.scheduler.specs.Day.{DayState, first_job, switch_to, level_in, bound_of, told, Told, ToldChosen, Paced, make_way, left_of, amend, handed, ending_of, after, after_run, after_chosen, passed}
-use Rattle.scheduler.specs.Places.{first_place}
+use Rattle.scheduler.specs.Places.{due_place}
 use Rattle.scheduler.proofs.Choosing.{first_some, first-stands, set_first, remove_first}
 use Rattle.scheduler.proofs.Runner.{dues-make_way}
 
@@ -53,14 +53,14 @@ module _
       a_tick_later s (amend m.deadline (left_of m (bound_of s m) l rate e) others) (handed e (bound_of s m) s.handed_bound)
       (handed e m.deadline s.handed_deadline)
 
-  in-its-place : (new : List Job) → amend m.deadline new others ≡ amend (get_or s.pending (first_place s.pending) m).deadline new others
+  in-its-place : (new : List Job) → amend m.deadline new others ≡ amend (get_or s.pending (due_place s.pending) m).deadline new others
   in-its-place new = ap (λ (j : Job). amend j.deadline new others) (first-stands s.pending m found)
 
   -- A job of which something remains goes on.
   pub after-going-on :
       rate < m.remaining →
       after_run s m (told s m level running_answer)
-      ≡ a_tick_later s (set others (first_place s.pending) (run_on m (bound_of s m) level rate)) s.handed_bound s.handed_deadline
+      ≡ a_tick_later s (set others (due_place s.pending) (run_on m (bound_of s m) level rate)) s.handed_bound s.handed_deadline
   after-going-on more =
       let left = m.remaining - rate in
       let no-ending : ending_of running_answer left ≡ None = cond-false _ _ _ (ne_eqb left 0 (λ none. omega arith)) in
@@ -74,7 +74,7 @@ module _
   -- A job that is over is taken out, and hands its bound and its deadline on.
   pub after-ending :
       after_run s m (told s m level Finished)
-      ≡ a_tick_later s (remove others (first_place s.pending)) (bound_of s m) m.deadline
+      ≡ a_tick_later s (remove others (due_place s.pending)) (bound_of s m) m.deadline
   after-ending =
       ap (λ pending. a_tick_later s pending (bound_of s m) m.deadline)
       (in-its-place []

@@ -1,5 +1,5 @@
 -- The place of the first pending job: which job stands there, how it is found, and what is put in its place.
-use Rattle.std.proofs.Common.{◌≡◌, ℕ, zero, suc, ◌<◌, ◌≤◌, Bool, true, false, cond, leb, List, [], ◌∷◌, ◌++◌, map, length, get_or, take, drop, set, Some, None, Option, unwrap_or, sym, refl, ap, ◌∙◌, subst, arith}
+use Rattle.std.proofs.Common.{◌≡◌, ℕ, zero, suc, ◌<◌, ◌≤◌, Bool, true, false, cond, leb, List, [], ◌∷◌, ◌++◌, map, length, get_or, take, drop, set, Some, None, Option, sym, refl, ap, ◌∙◌, subst, arith}
 use Rattle.std.specs.List.{remove, AllByRecursion}
 use Rattle.std.proofs.ByRecursion.{All-get_or}
 use Rattle.std.proofs.lemmas.List.{get_or-map, length-map, map-set, nil_from_length, set-get_or, set_split}
@@ -10,7 +10,7 @@ use Rattle.scheduler.specs.declared.job.Job.{Job}
 use Rattle.scheduler.specs.declared.job.Stage.TheVariants.{Waiting}
 use Rattle.scheduler.specs.Day.{first_job, earlier, amend}
 use Rattle.scheduler.specs.Good.{Numbered}
-use Rattle.scheduler.specs.Places.{job_before, job_equal, first_place}
+use Rattle.scheduler.specs.Places.{job_before, job_equal, due_place, first_place}
 use Rattle.scheduler.proofs.Smallest.{Smallest, smallest_found, smallest_place_is}
 
 -- The deadlines of some jobs.
@@ -18,27 +18,27 @@ abbrev pub dues : List Job → List ℕ
 dues js = map (λ j. j.deadline) js
 
 -- A job to stand where there is none.
-abbrev no_job : Job
+abbrev pub no_job : Job
 no_job = record { number = 0; deadline = 0; budget = 0; remaining = 0; stage = Waiting }
 
 pub due-at : (js : List Job) (k : ℕ) (d : Job) → k < length js → get_or (dues js) k 0 ≡ (get_or js k d).deadline
 due-at js k d within = get_or-map (λ (j : Job). j.deadline) js k d 0 within
 
-first_found : (js : List Job) → 0 < length js → Smallest (dues js) (first_place js)
+first_found : (js : List Job) → 0 < length js → Smallest (dues js) (due_place js)
 first_found js some = smallest_found (dues js) (omega (arith, length-map js (λ (j : Job). j.deadline)))
 
-pub first-within : (js : List Job) → 0 < length js → first_place js < length js
+pub first-within : (js : List Job) → 0 < length js → due_place js < length js
 first-within js some = omega (arith, (first_found js some).within, length-map js (λ (j : Job). j.deadline))
 
 -- The job at that place is the first one.
-pub first-job_at : (js : List Job) (d : Job) → 0 < length js → first_job js ≡ Some (get_or js (first_place js) d)
+pub first-job_at : (js : List Job) (d : Job) → 0 < length js → first_job js ≡ Some (get_or js (due_place js) d)
 first-job_at [] d some = absurd (omega arith)
 first-job_at (j ∷ []) d some =
     cond_both (leb j.deadline j.deadline) 0 1 (λ p. first_job (j ∷ []) ≡ Some (get_or (j ∷ []) p d))
     (λ e. refl)
     (λ e. absurd (omega (arith, leb-false j.deadline j.deadline e)))
 first-job_at (j ∷ (k ∷ js)) d some =
-    let p = first_place (k ∷ js) in
+    let p = due_place (k ∷ js) in
     let rest = get_or (k ∷ js) p d in
     let due : get_or (dues (k ∷ js)) p j.deadline ≡ rest.deadline =
     get_or-map (λ (q : Job). q.deadline) (k ∷ js) p d j.deadline (first-within (k ∷ js) (omega arith)) in
@@ -55,13 +55,13 @@ pub first_some : (js : List Job) (j : Job) → first_job js ≡ Some j → 0 < l
 first_some [] j found = let z : ◌≡◌ {A = ℕ} 0 1 = cc in absurd (omega arith)
 first_some (k ∷ js) j found = omega arith
 
-pub first-stands : (js : List Job) (j : Job) → first_job js ≡ Some j → j ≡ get_or js (first_place js) j
+pub first-stands : (js : List Job) (j : Job) → first_job js ≡ Some j → j ≡ get_or js (due_place js) j
 first-stands js j found = let here = first-job_at js j (first_some js j found) in cc
 
 -- What holds of every job holds of the first one.
 pub first-has : (P : Job → Type 0) (js : List Job) (j : Job) → first_job js ≡ Some j → AllByRecursion P js → P j
 first-has P js j found all =
-    subst P (sym (first-stands js j found)) (All-get_or P js (first_place js) j (first-within js (first_some js j found)) all)
+    subst P (sym (first-stands js j found)) (All-get_or P js (due_place js) j (first-within js (first_some js j found)) all)
 
 -- No number is above the largest.
 pub numbers_low : (js : List Job) (low high k : ℕ) (d : Job) → Numbered low high js → k < length js → (get_or js k d).number ≤ high
@@ -92,9 +92,9 @@ not-before_late : (x y : Job) → job_before x y ≡ false → x.number < y.numb
 not-before_late x y h less = grind (arith, nat_tests)
 
 -- Of jobs that are numbered in order, the first by deadline and number stands at that place.
-pub first-place_is :
-    (js : List Job) (low high p : ℕ) → Numbered low high js → First job_before job_equal js p → first_place js ≡ p
-first-place_is js low high p rising first =
+pub due-place_is :
+    (js : List Job) (low high p : ℕ) → Numbered low high js → First job_before job_equal js p → due_place js ≡ p
+due-place_is js low high p rising first =
     let long = length-map js (λ (j : Job). j.deadline) in
     let here = due-at js p no_job first.within in
     smallest_place_is (dues js) p
@@ -111,12 +111,26 @@ first-place_is js low high p rising first =
           (numbers_rise js low high k p no_job rising l first.within));
     })
 
--- What the search for the first of some jobs finds, or 0 where there are none, is that place.
+-- Where some job is, the first one has that place.
+pub first-place_some : (js : List Job) → 0 < length js → first_place js ≡ Some (due_place js)
+first-place_some [] some = absurd (omega arith)
+first-place_some (j ∷ js) some = refl
+
+pub first-place_is : (js : List Job) (p : ℕ) → first_place js ≡ Some p → (0 < length js) × (p ≡ due_place js)
+first-place_is [] p e = let z : ◌≡◌ {A = ℕ} 0 1 = cc in absurd (omega arith)
+first-place_is (j ∷ js) p e = (omega arith, cc)
+
+pub first-place_none : (js : List Job) → first_place js ≡ None → js ≡ []
+first-place_none [] e = refl
+first-place_none (j ∷ js) e = let z : ◌≡◌ {A = ℕ} 0 1 = cc in absurd (omega arith)
+
+-- What the search for the first of some jobs finds is its place.
 pub found_place :
     (js : List Job) (low high : ℕ) (o : Option ℕ) → Numbered low high js →
-    (elim o as (λ x. Type 0) [ None ↦ length js ≡ 0 | Some p ↦ First job_before job_equal js p ]) → unwrap_or o 0 ≡ first_place js
-found_place js low high None rising none = ap first_place (sym (nil_from_length js none))
-found_place js low high (Some p) rising first = sym (first-place_is js low high p rising first)
+    (elim o as (λ x. Type 0) [ None ↦ length js ≡ 0 | Some p ↦ First job_before job_equal js p ]) → first_place js ≡ o
+found_place js low high None rising none = ap first_place (nil_from_length js none)
+found_place js low high (Some p) rising first =
+    first-place_some js (omega (arith, first.within)) ∙ ap Some (due-place_is js low high p rising first)
 
 -- A job with the deadline of the one in whose place it comes leaves the deadlines as they were.
 pub dues-set :
@@ -139,9 +153,9 @@ amend-at (j ∷ js) (suc p) due new d within here before =
 -- In a list with the same deadlines, what takes the first job's place comes to stand there.
 pub amend-first :
     (js ks : List Job) (new : List Job) (d : Job) → 0 < length js → dues ks ≡ dues js →
-    amend (get_or js (first_place js) d).deadline new ks ≡ take (first_place js) ks ++ (new ++ drop (suc (first_place js)) ks)
+    amend (get_or js (due_place js) d).deadline new ks ≡ take (due_place js) ks ++ (new ++ drop (suc (due_place js)) ks)
 amend-first js ks new d some same =
-    let p = first_place js in
+    let p = due_place js in
     let first = first_found js some in
     let long = length-map js (λ (j : Job). j.deadline) in
     let long-too = length-map ks (λ (j : Job). j.deadline) in
@@ -156,14 +170,14 @@ amend-first js ks new d some same =
 
 pub set_first :
     (js ks : List Job) (j d : Job) → 0 < length js → dues ks ≡ dues js →
-    amend (get_or js (first_place js) d).deadline (j ∷ []) ks ≡ set ks (first_place js) j
+    amend (get_or js (due_place js) d).deadline (j ∷ []) ks ≡ set ks (due_place js) j
 set_first js ks j d some same =
     let long = length-map js (λ (j : Job). j.deadline) in
     let long-too = length-map ks (λ (j : Job). j.deadline) in
     let as_long = ap length same in
-    amend-first js ks (j ∷ []) d some same ∙ sym (set_split ks (first_place js) j (omega (arith, first-within js some)))
+    amend-first js ks (j ∷ []) d some same ∙ sym (set_split ks (due_place js) j (omega (arith, first-within js some)))
 
 pub remove_first :
     (js ks : List Job) (d : Job) → 0 < length js → dues ks ≡ dues js →
-    amend (get_or js (first_place js) d).deadline [] ks ≡ remove ks (first_place js)
+    amend (get_or js (due_place js) d).deadline [] ks ≡ remove ks (due_place js)
 remove_first js ks d some same = amend-first js ks [] d some same

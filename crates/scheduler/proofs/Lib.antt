@@ -5,8 +5,8 @@ pub mod Ticks
 pub mod Refines
 pub mod DayGood
 pub mod GoodAtMostOnce
-pub mod Fronts
 pub mod Smallest
+pub mod Written
 pub mod Choosing
 pub mod Runner
 pub mod Accepting

@@ -17,9 +17,8 @@ use Rattle.scheduler.specs.Day.{DayState, ending_of, level_in, switch_to, runner
 use Rattle.scheduler.specs.Good.{Numbered}
 use Rattle.scheduler.specs.Model.{model}
 use Rattle.scheduler.specs.Outcomes.{Asked, AskedFirst, Rendered}
-use Rattle.scheduler.specs.Pending.{items}
 use Rattle.scheduler.specs.Writable.{NumberFits, SwitchFits, RanFits}
-use Rattle.scheduler.specs.Places.{first_place}
+use Rattle.scheduler.specs.Places.{due_place}
 use Rattle.scheduler.proofs.Afterwards.{told-right}
 use Rattle.scheduler.proofs.Choosing.{first_some, first-stands, first-within, numbers_low}
 use Rattle.scheduler.proofs.KeptPlaces.{good, first_fits}
@@ -49,10 +48,10 @@ module _ (d : Day) (c : Chosen) (chooses : Chooses (model d) c) (given : Answer)
 
   number_fits : c.job.number < 2 ^ 28
   number_fits =
-      let js = items d.pending in
+      let js = d.pending.items in
       let limits = good d in
       let within = first-within js (first_some js c.job chooses.first) in
-      let low = numbers_low js 0 d.accepted (first_place js) c.job limits.numbered within in
+      let low = numbers_low js 0 d.accepted (due_place js) c.job limits.numbered within in
       let same = ap (λ (j : Job). j.number) (first-stands js c.job chooses.first) in
       omega (arith, limits.numbers_low, limits.budgets_low)
 
@@ -64,7 +63,7 @@ module _ (d : Day) (c : Chosen) (chooses : Chooses (model d) c) (given : Answer)
       cond_both (runs c.job) None _ SwitchFits
       (λ r. tt)
       (λ r. (
-        runner-fits (items d.pending) 0 d.accepted limits.numbered (omega (arith, limits.numbers_low, limits.budgets_low)),
+        runner-fits (d.pending.items) 0 d.accepted limits.numbered (omega (arith, limits.numbers_low, limits.budgets_low)),
         omega (arith, chooses.in_table, few),
         omega (arith, bound, limits.clock_low, limits.budgets_low),
       ))

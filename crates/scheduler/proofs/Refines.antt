@@ -7,18 +7,20 @@ use Rattle.std.proofs.lemmas.Bool.{cond_both, and_parts, leb-true, ltb-true, eq-
 use Rattle.rates.specs.Lawful.{Lawful}
 use Rattle.rates.specs.Table.{top_rate}
 use Rattle.rates.specs.declared.level.Level.{Level}
+use Rattle.cues.specs.Cues.{cue_refusal}
+use Rattle.cues.specs.declared.refusal.CueRefusal.{CueRefusal}
+use Rattle.cues.specs.declared.refusal.CueRefusal.TheVariants as cue
 use Rattle.scheduler.specs.declared.job.Job.{Job}
 use Rattle.scheduler.specs.declared.job.Stage.{Stage}
 use Rattle.scheduler.specs.declared.job.Stage.TheVariants.{Waiting, Running, Aside}
-use Rattle.calls.specs.declared.refusal.Refusal.{Refusal}
-use Rattle.calls.specs.declared.refusal.Refusal.TheVariants.{Budget, Deadline, Pending, Budgets, Clock}
+use Rattle.calls.specs.declared.refusal.Refusal.TheVariants.{Pending, Budgets, Clock}
 use Rattle.calls.specs.declared.ticked.Ending.{Ending}
 use Rattle.calls.specs.declared.ticked.Ran.{Ran}
 use Rattle.calls.specs.declared.ticked.Ticked.TheVariants.{Idle, Ran as ran}
 use Rattle.runs.specs.SlowRun as slow
 use Rattle.runs.specs.SlowRun.{SlowRow}
 use Rattle.runs.specs.NeverBehind.{budgets, Sound}
-use Rattle.scheduler.specs.Day.{DayState, opened, release_refusal, released, tick_refusal, paced, runs, first_job, bound_of, level_in, make_way, left_of, amend, handed, after_run, after_idle, after_chosen, ToldChosen, Event, arrived, passed, after, Possible}
+use Rattle.scheduler.specs.Day.{DayState, opened, job_refusal, release_refusal, released, tick_refusal, paced, runs, first_job, bound_of, level_in, make_way, left_of, amend, handed, after_run, after_idle, after_chosen, ToldChosen, Event, arrived, passed, after, Possible}
 use Rattle.scheduler.specs.Good.{running}
 use Rattle.scheduler.specs.Law.{ends_job, bound_set, or_else}
 use Rattle.scheduler.proofs.Follows.{Fit, Same, Tied, told_end, told_bound, Follows, finis, IsFirst, is-first, First, BothChoose, first-agrees, somebody-agrees, running-agrees, chosen-fit, chosen-placed, follows-push}
@@ -74,11 +76,37 @@ refines_opened rates =
       few = omega arith;
     }
 
--- A release that is not refused.
-passes : (test : Bool) (rest : Option Refusal) (refusal : Refusal) → cond test rest (Some refusal) ≡ None → (test ≡ true) × (rest ≡ None)
+-- A test that has to pass, for nothing to be refused.
+passes : {X : Type 0} (test : Bool) (rest : Option X) (refusal : X) → cond test rest (Some refusal) ≡ None → (test ≡ true) × (rest ≡ None)
 passes true rest refusal e = (refl, e)
 passes false rest refusal e = let z : ◌≡◌ {A = ℕ} 0 1 = cc in absurd (omega arith)
 
+-- A job that is not refused is a cue.
+pub cue_then_job : (d : DayState) (budget : ℕ) (o : Option CueRefusal) → job_refusal d budget o ≡ None → (o ≡ None) × (job_refusal d budget None ≡ None)
+cue_then_job d budget None e = (refl, e)
+cue_then_job d budget (Some cause) e = let z : ◌≡◌ {A = ℕ} 0 1 = cc in absurd (omega arith)
+
+-- A cue's four bounds.
+pub record IsCue (release deadline budget : ℕ) : Type 0 where
+  pub some_budget : 1 ≤ budget
+  pub small_budget : budget ≤ 65535
+  pub ahead : release < deadline
+  pub small_deadline : deadline ≤ 134217727
+
+pub is-cue : (release deadline budget : ℕ) → cue_refusal release deadline budget ≡ None → IsCue release deadline budget
+is-cue release deadline budget e =
+    let first = passes (leb 1 budget && leb budget 65535) _ (cue.Budget budget) e in
+    let second = passes (ltb release deadline && leb deadline 134217727) _ (cue.Deadline deadline) first.1 in
+    let budget-right = and_parts (leb 1 budget) (leb budget 65535) first.0 in
+    let deadline-right = and_parts (ltb release deadline) (leb deadline 134217727) second.0 in
+    record {
+      some_budget = leb-true 1 budget budget-right.0;
+      small_budget = leb-true budget 65535 budget-right.1;
+      ahead = ltb-true release deadline deadline-right.0;
+      small_deadline = leb-true deadline 134217727 deadline-right.1;
+    }
+
+-- A release that is not refused.
 pub record Acceptable (d : DayState) (deadline budget : ℕ) : Type 0 where
   pub some_budget : 1 ≤ budget
   pub small_budget : budget ≤ 65535
@@ -89,17 +117,15 @@ pub record Acceptable (d : DayState) (deadline budget : ℕ) : Type 0 where
 
 pub acceptable : (d : DayState) (deadline budget : ℕ) → release_refusal d deadline budget ≡ None → Acceptable d deadline budget
 acceptable d deadline budget e =
-    let first = passes (leb 1 budget && leb budget 65535) _ (Budget budget) e in
-    let second = passes (ltb d.clock deadline && leb deadline 134217727) _ (Deadline deadline) first.1 in
-    let third = passes (ltb (length d.pending) 64) _ (Pending 64) second.1 in
+    let cue = cue_then_job d budget (cue_refusal d.clock deadline budget) e in
+    let bounds = is-cue d.clock deadline budget cue.0 in
+    let third = passes (ltb (length d.pending) 64) _ (Pending 64) cue.1 in
     let fourth = passes (leb (d.budgets + budget) 134217727) None (Budgets d.budgets) third.1 in
-    let budget-right = and_parts (leb 1 budget) (leb budget 65535) first.0 in
-    let deadline-right = and_parts (ltb d.clock deadline) (leb deadline 134217727) second.0 in
     record {
-      some_budget = leb-true 1 budget budget-right.0;
-      small_budget = leb-true budget 65535 budget-right.1;
-      ahead = ltb-true d.clock deadline deadline-right.0;
-      small_deadline = leb-true deadline 134217727 deadline-right.1;
+      some_budget = bounds.some_budget;
+      small_budget = bounds.small_budget;
+      ahead = bounds.ahead;
+      small_deadline = bounds.small_deadline;
       few = ltb-true (length d.pending) 64 third.0;
       budgets_low = leb-true (d.budgets + budget) 134217727 fourth.0;
     }

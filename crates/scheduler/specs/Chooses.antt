@@ -10,9 +10,16 @@ use Rattle.calls.specs.declared.ticked.Ran.{Ran}
 use Rattle.calls.specs.declared.ticked.Switch.{Switch}
 use Rattle.runs.specs.SlowRun as slow
 use Rattle.scheduler.specs.Day.{DayState, first_job, runner, bound_of, switch_to, level_in, ending_of, Paced}
+use Rattle.scheduler.specs.Places.{first_place}
 
--- The first job is chosen, with the switch to it, its bound, its level and its rate.
+-- The first job stands at this place of the pending jobs, and is this one.
+pub record Stands (day : DayState) (place : ℕ) (m : Job) : Type 0 where
+  pub here : first_place day.pending ≡ Some place
+  pub first : first_job day.pending ≡ Some m
+
+-- The first job is chosen, with its place, the switch to it, its bound, its level and its rate.
 pub record Chooses (day : DayState) (c : Chosen) : Type 0 where
+  pub here : first_place day.pending ≡ Some c.place
   pub first : first_job day.pending ≡ Some c.job
   pub switched : c.switch ≡ switch_to day c.job c.level
   pub kept : level_in c.job c.switch ≡ c.level

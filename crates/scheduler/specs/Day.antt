@@ -1,5 +1,5 @@
 -- The day: what its calls refuse, and what an accepted one makes of it.
-use Rattle.std.specs.Prelude.{◌≡◌, ℕ, ◌+◌, ◌-◌, ◌*◌, Bool, cond, ◌&&◌, List, [], ◌∷◌, ◌++◌, map, length, is_some, Some, None, Option, ◌==◌, nat_le, nat_lt}
+use Rattle.std.specs.Prelude.{◌≡◌, ℕ, ◌+◌, ◌-◌, ◌*◌, Bool, cond, List, [], ◌∷◌, ◌++◌, map, length, is_some, Some, None, Option, ◌==◌, nat_le, nat_lt}
 use Rattle.rates.specs.declared.level.Level.{Level}
 use Rattle.rates.specs.Table.{rate_of, top_rate}
 use Rattle.rates.specs.Policy.{Sufficient}
@@ -17,7 +17,9 @@ use Rattle.calls.specs.declared.ticked.Turn.TheVariants.{Start, Resume}
 use Rattle.calls.specs.declared.ticked.Ending.{Ending}
 use Rattle.calls.specs.declared.ticked.Ending.TheVariants as ending
 use Rattle.calls.specs.declared.refusal.Refusal.{Refusal}
-use Rattle.calls.specs.declared.refusal.Refusal.TheVariants.{Budget, Deadline, Pending, Budgets, Clock}
+use Rattle.calls.specs.declared.refusal.Refusal.TheVariants as refusal
+use Rattle.cues.specs.declared.refusal.CueRefusal.{CueRefusal}
+use Rattle.cues.specs.Cues.{cue_refusal}
 use Rattle.runs.specs.SlowRun as slow
 
 -- A day between two calls: the rates of its table, the clock, how many jobs were accepted and their summed budgets, the
@@ -44,19 +46,18 @@ opened rates =
       handed_deadline = 0;
     }
 
+-- Why a job is refused that is a cue, or no cue for this cause.
+abbrev pub job_refusal : DayState → ℕ → Option CueRefusal → Option Refusal
+job_refusal s budget (Some cause) = Some (refusal.Job cause)
+job_refusal s budget None =
+    cond
+    (nat_lt (length s.pending) 64)
+    (cond (nat_le (s.budgets + budget) 134217727) None (Some (refusal.Budgets s.budgets)))
+    (Some (refusal.Pending 64))
+
 -- Why a release is refused, the want of room left aside: the lowest number that applies.
 abbrev pub release_refusal : DayState → ℕ → ℕ → Option Refusal
-release_refusal s deadline budget =
-    cond
-    (nat_le 1 budget && nat_le budget 65535)
-    (cond
-    (nat_lt s.clock deadline && nat_le deadline 134217727)
-    (cond
-    (nat_lt (length s.pending) 64)
-    (cond (nat_le (s.budgets + budget) 134217727) None (Some (Budgets s.budgets)))
-    (Some (Pending 64)))
-    (Some (Deadline deadline)))
-    (Some (Budget budget))
+release_refusal s deadline budget = job_refusal s budget (cue_refusal s.clock deadline budget)
 
 -- The day after a release that was accepted: the job has the next number, and its budget at the top rate remains.
 abbrev pub released : DayState → ℕ → ℕ → DayState
@@ -82,7 +83,7 @@ released s deadline budget =
 
 -- Why a tick is refused, the want of room left aside.
 abbrev pub tick_refusal : DayState → Option Refusal
-tick_refusal s = cond (nat_lt s.clock 134217727) None (Some (Clock s.clock))
+tick_refusal s = cond (nat_lt s.clock 134217727) None (Some (refusal.Clock s.clock))
 
 -- The stage of a pending job with its level forgotten.
 abbrev pub paced : Stage → slow.Stage

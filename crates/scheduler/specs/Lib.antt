@@ -2,7 +2,6 @@ pub mod Day
 pub mod Marks
 pub mod Law
 pub mod Good
-pub mod Pending
 pub mod Places
 pub mod Held
 pub mod Model

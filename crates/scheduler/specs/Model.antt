@@ -6,4 +6,4 @@ use Rattle.scheduler.specs.Held.{held}
 -- The state of the day that the rules speak of.
 abbrev pub model : Day → DayState
 model d =
-    held d.table d.clock d.accepted d.budgets d.pending d.handed_bound d.handed_deadline
+    held d.table d.clock d.accepted d.budgets d.pending d.handed

@@ -17,9 +17,14 @@ abbrev pub smallest_place : List ℕ → ℕ
 smallest_place [] = 0
 smallest_place (n ∷ ns) = cond (nat_le n (slice_index_or ns (smallest_place ns) n)) 0 (suc (smallest_place ns))
 
--- The place of the first job by deadline, ties to the earlier place; 0 where there is none.
-abbrev pub first_place : List Job → ℕ
-first_place js = smallest_place (map (λ j. j.deadline) js)
+-- The place of the smallest deadline, ties to the earlier place; 0 where there is no job.
+abbrev pub due_place : List Job → ℕ
+due_place js = smallest_place (map (λ j. j.deadline) js)
+
+-- The place of the first job by deadline, ties to the earlier place, if there is one.
+abbrev pub first_place : List Job → Option ℕ
+first_place [] = None
+first_place (j ∷ js) = Some (due_place (j ∷ js))
 
 -- The place of the job that ran in the tick before, if there is one.
 abbrev pub runner_place : List Job → Option ℕ

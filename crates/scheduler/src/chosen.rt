@@ -14,6 +14,8 @@ use renderers::renderer::Renderer;
 /// The chosen job, how it comes to run and how fast.
 #[derive(Clone, Copy)]
 pub(crate) struct Chosen {
+    /// Where the job stands among those that are pending.
+    pub(crate) place: usize,
     pub(crate) job: Job,
     /// Where the job did not run in the tick before.
     pub(crate) switch: Option<Switch>,
@@ -47,14 +49,12 @@ impl Chosen {
         ensures { result ≡ run_on self.now.job self.now.bound self.now.level self.now.rate }
     {
         Job {
-            number: self.job.number,
-            deadline: self.job.deadline,
-            budget: self.job.budget,
             remaining: self.job.remaining.saturating_sub(self.rate),
             stage: Stage::Running {
                 bound: self.bound,
                 level: self.level,
             },
+            ..self.job
         }
     }
 }

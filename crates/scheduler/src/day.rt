@@ -8,17 +8,20 @@ mod settling;
 mod ticking;
 
 ghost use Rattle.std.specs.Prelude.{◌≡◌};
-ghost use Rattle.std.specs.Option.{option_to_list};
 ghost use Rattle.scheduler.specs.Day.{Reached};
 ghost use Rattle.scheduler.specs.Held.{held};
-ghost use Rattle.scheduler.specs.Pending.{items};
 ghost use Rattle.scheduler.specs.Places.{first_place, runner_place};
 
-use crate::pending::Pending;
+use crate::handed::Handed;
+use crate::job::Job;
+use arrayvec::ArrayVec;
 use rates::RateTable;
 
 /// The last clock of a day, and the last deadline that a job may have.
 const LAST_CLOCK: u32 = 134_217_727;
+
+/// The most jobs that may be pending.
+const MOST_PENDING: usize = 64;
 
 /// The free words that a release or a tick wants: no call writes more, and one is left for closing the day.
 const CALL_WORDS: usize = 10;
@@ -35,16 +38,14 @@ pub struct Day {
     accepted: u32,
     /// The summed budgets of the jobs that were accepted.
     budgets: u32,
-    pending: Pending,
-    /// The place of the first pending job, 0 where none is pending.
-    first: usize,
+    /// The pending jobs in the order of their numbers.
+    pending: ArrayVec<Job, MOST_PENDING>,
+    /// The place of the first pending job, if one is pending.
+    first: Option<usize>,
     /// The place of the job that ran in the tick before, if it is pending.
     running: Option<usize>,
-    /// The bound of the job that ended last.
-    handed_bound: u32,
-    /// The deadline of the job that ended last.
-    handed_deadline: u32,
-    ghost reached: { ∥ Reached (held table clock accepted budgets pending handed_bound handed_deadline) ∥₁ },
-    ghost first_holds: { first ≡ first_place (items pending) },
-    ghost running_holds: { option_to_list running ≡ option_to_list (runner_place (items pending)) },
+    handed: Handed,
+    ghost reached: { ∥ Reached (held table clock accepted budgets pending handed) ∥₁ },
+    ghost first_holds: { first_place pending.items ≡ first },
+    ghost running_holds: { runner_place pending.items ≡ running },
 }

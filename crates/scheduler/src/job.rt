@@ -2,9 +2,10 @@
 use rates::Level;
 
 /// How far a pending job has come.
-#[derive(Clone, Copy)]
+#[derive(Clone, Copy, Default)]
 pub enum Stage {
     /// It never started.
+    #[default]
     Waiting,
     /// It ran in the tick before, at this level, and has to be over at its bound.
     Running { bound: u32, level: Level },
@@ -13,7 +14,7 @@ pub enum Stage {
 }
 
 /// A pending job: its number, deadline and budget, the units that remain of it, and how far it has come.
-#[derive(Clone, Copy)]
+#[derive(Clone, Copy, Default)]
 pub struct Job {
     pub number: u32,
     pub deadline: u32,

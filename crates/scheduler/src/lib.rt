@@ -4,8 +4,9 @@
 mod chosen;
 pub mod closed_day;
 pub mod day;
+mod handed;
 pub mod job;
 mod order;
-mod pending;
+mod payload;
 mod recording;
 mod stage;

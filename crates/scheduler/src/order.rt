@@ -14,7 +14,6 @@ impl Before for Job {
     ghost lawful = { lexical (by_number (λ j. j.deadline)) (by_number (λ j. j.number)) };
 
     fn is_before(&self, other: &Job) -> bool {
-        self.deadline < other.deadline
-            || (self.deadline == other.deadline && self.number < other.number)
+        (self.deadline, self.number) < (other.deadline, other.number)
     }
 }

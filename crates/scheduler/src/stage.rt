@@ -12,10 +12,7 @@ impl Stage {
     pub(crate) fn is_running(self) -> bool
         ensures { result ≡ runs (paced self) }
     {
-        match self {
-            Stage::Running { .. } => true,
-            Stage::Waiting | Stage::Aside { .. } => false,
-        }
+        matches!(self, Stage::Running { .. })
     }
 
     /// The stage once a job that ran is set aside, with the clock noted.

@@ -5,10 +5,11 @@ ghost use Rattle.std.specs.Prelude.{◌≡◌, ◌-◌, ◌*◌, ◌<◌, ◌≤
 ghost use Rattle.rates.specs.Policy.{Sufficient};
 ghost use Rattle.rates.specs.Table.{rate_of, top_rate};
 ghost use Rattle.scheduler.specs.declared.job.Stage.TheVariants.{Running};
-ghost use Rattle.scheduler.specs.Chooses.{Asks, Chooses, free_from, starting_bound};
-ghost use Rattle.scheduler.specs.Day.{bound_of, first_job, runner, runs};
+ghost use Rattle.scheduler.specs.Chooses.{Asks, Chooses, Stands, free_from, starting_bound};
+ghost use Rattle.scheduler.specs.Day.{bound_of, runner, runs};
 ghost use Rattle.scheduler.specs.Good.{GoodJob};
 ghost use Rattle.scheduler.specs.Model.{model};
+ghost use Rattle.scheduler.specs.Places.{first_place};
 
 use super::Day;
 use crate::chosen::Chosen;
@@ -19,24 +20,25 @@ use rates::{Level, Policy};
 impl Day {
     /// The first job, with all that is decided before it runs. The policy is asked where the job did not run in the tick
     /// before.
-    pub(super) fn choose<P: Policy>(&self, policy: &mut P) -> Chosen
-        requires { 0 < length (model self.now).pending }
+    pub(super) fn choose<P: Policy>(&self, place: usize, policy: &mut P) -> Chosen
+        requires { first_place (model self.now).pending ≡ Some place }
         ensures chosen { Chooses (model self.now) result }
         ensures asked { Asks P.Policy.tells (model self.now) result.job result.switch policy.old policy.new }
     {
-        let job = self.pending.get(self.first);
+        let job = self.pending[place];
         match job.stage {
-            Stage::Running { bound, level } => self.going_on(job, bound, level),
-            Stage::Waiting | Stage::Aside { .. } => self.switching(job, policy),
+            Stage::Running { bound, level } => self.going_on(place, job, bound, level),
+            Stage::Waiting | Stage::Aside { .. } => self.switching(place, job, policy),
         }
     }
 
     /// A first job that ran in the tick before keeps its bound and its level.
-    fn going_on(&self, job: Job, bound: u32, level: Level) -> Chosen
-        requires { (first_job (model self.now).pending ≡ Some job) × (job.stage ≡ Running bound level) }
+    fn going_on(&self, place: usize, job: Job, bound: u32, level: Level) -> Chosen
+        requires { Stands (model self.now) place job × (job.stage ≡ Running bound level) }
         ensures { (Chooses (model self.now) result) × ((result.job ≡ job) × (result.switch ≡ None)) }
     {
         Chosen {
+            place,
             job,
             switch: None,
             bound,
@@ -46,8 +48,8 @@ impl Day {
     }
 
     /// A first job that did not run in the tick before is switched to.
-    fn switching<P: Policy>(&self, job: Job, policy: &mut P) -> Chosen
-        requires { (first_job (model self.now).pending ≡ Some job) × (runs job ≡ false) }
+    fn switching<P: Policy>(&self, place: usize, job: Job, policy: &mut P) -> Chosen
+        requires { Stands (model self.now) place job × (runs job ≡ false) }
         ensures chosen { Chooses (model self.now) result }
         ensures asked { Asks P.Policy.tells (model self.now) result.job result.switch policy.old policy.new }
     {
@@ -60,6 +62,7 @@ impl Day {
             bound,
         };
         Chosen {
+            place,
             job,
             switch: Some(switch),
             bound,
@@ -76,7 +79,7 @@ impl Day {
         match job.stage {
             Stage::Waiting => self.starting_bound(job),
             Stage::Running { bound, .. } => bound,
-            Stage::Aside { bound, noted } => bound + self.handed_bound - noted,
+            Stage::Aside { bound, noted } => bound + self.handed.bound - noted,
         }
     }
 
@@ -96,10 +99,10 @@ impl Day {
     fn free_from(&self, job: &Job) -> u32
         ensures { result ≡ free_from (model self.now) job.now }
     {
-        if job.deadline < self.handed_deadline || self.handed_bound < self.clock {
+        if job.deadline < self.handed.deadline || self.handed.bound < self.clock {
             self.clock
         } else {
-            self.handed_bound
+            self.handed.bound
         }
     }
 
@@ -107,10 +110,8 @@ impl Day {
     fn runner(&self) -> Option<u32>
         ensures { result ≡ runner (model self.now).pending }
     {
-        match self.running {
-            Some(place) => Some(self.pending.get(place).number),
-            None => None,
-        }
+        let place = self.running?;
+        Some(self.pending[place].number)
     }
 
     /// The level that the policy picks for what remains up to the bound. There is time enough, so that it picks one.
@@ -119,10 +120,9 @@ impl Day {
         ensures enough { Sufficient (model self.now).rates remaining (bound - (model self.now).clock) result.0 }
         ensures told { (remaining ≤ top_rate (model self.now).rates * (bound - (model self.now).clock)) × P.Policy.tells policy.old (model self.now).rates remaining (bound - (model self.now).clock) (Some result.0) policy.new }
     {
-        match policy.choose(&self.table, remaining, bound - self.clock) {
-            Some(level) => level,
-            None => unreachable(),
-        }
+        policy
+            .choose(&self.table, remaining, bound - self.clock)
+            .unwrap()
     }
 
     /// The rate of a level of the table.
@@ -130,9 +130,6 @@ impl Day {
         requires { (1 ≤ level.0) × (level.0 ≤ length (model self.now).rates) }
         ensures { result ≡ rate_of (model self.now).rates level.0 }
     {
-        match self.table.rate(level) {
-            Some(rate) => rate,
-            None => unreachable(),
-        }
+        self.table.rate(level).unwrap()
     }
 }

@@ -9,8 +9,10 @@ ghost use Rattle.scheduler.specs.Outcomes.{Opens, Refused, opening_refusal};
 
 use super::Day;
 use crate::closed_day::ClosedDay;
-use crate::pending::Pending;
-use crate::recording::{check_room, record_closing, record_opening};
+use crate::handed::Handed;
+use crate::payload::Payload;
+use crate::recording::{record_closing, record_opening};
+use arrayvec::ArrayVec;
 use calls::refusal::Refusal;
 use rates::RateTable;
 use recorder::Trace;
@@ -23,18 +25,20 @@ impl Day {
     pub fn open<T: Trace>(table: RateTable, trace: &mut T) -> Result<Day, Refusal>
         ensures { elim result [ Ok day ↦ Opens (rates_of table) (T.Trace.page trace.old) (T.Trace.page trace.new) (model day) | Err refusal ↦ Refused (opening_refusal (T.Trace.page trace.old) (rates_of table)) refusal (trace.new ≡ trace.old) ] }
     {
-        check_room(trace, table.levels() + OPENING_WORDS)?;
+        trace.reserve(table.levels() + OPENING_WORDS)?;
         record_opening(&table, trace);
         Ok(Day {
             table,
             clock: 0,
             accepted: 0,
             budgets: 0,
-            pending: Pending::none(),
-            first: 0,
+            pending: ArrayVec::new(),
+            first: None,
             running: None,
-            handed_bound: 0,
-            handed_deadline: 0,
+            handed: Handed {
+                bound: 0,
+                deadline: 0,
+            },
         })
     }
 
@@ -50,7 +54,7 @@ impl Day {
         ensures day { result.clock ≡ (model self).clock }
         ensures trace { T.Trace.page trace.new ≡ marked_all (T.Trace.page trace.old) (closing_marks (model self).clock) }
     {
-        record_closing(self.clock, trace);
+        record_closing(Payload::of(self.clock), trace);
         ClosedDay::closed_at(self.clock)
     }
 }

@@ -1,24 +1,21 @@
 //! Releasing a job on an open day: what is refused is decided first, and then the job is accepted.
 
-ghost use Rattle.std.specs.Prelude.{◌≡◌, ◌+◌, ◌<◌, [], ◌∷◌, ◌++◌, None, Ok, Err};
+ghost use Rattle.std.specs.Prelude.{◌≡◌, ◌+◌, ◌<◌, [], ◌∷◌, ◌++◌, Some, None, Ok, Err};
 ghost use Rattle.std.specs.Result.{result_err};
 ghost use Rattle.scheduler.specs.Day.{release_refusal, released};
 ghost use Rattle.scheduler.specs.Marks.{or_no_room};
 ghost use Rattle.scheduler.specs.Model.{model};
 ghost use Rattle.scheduler.specs.Outcomes.{Refused, Releases};
-ghost use Rattle.scheduler.specs.Pending.{items};
 ghost use Rattle.scheduler.specs.Places.{first_place};
 
-use super::{CALL_WORDS, Day, LAST_CLOCK};
+use super::{CALL_WORDS, Day, MOST_PENDING};
 use crate::job::{Job, Stage};
-use crate::pending::MOST_PENDING;
-use crate::recording::{check_room, record_release};
+use crate::payload::Payload;
+use crate::recording::record_release;
 use calls::refusal::Refusal;
+use cues::cue::Cue;
 use ordering::Before;
 use recorder::Trace;
-
-/// The largest budget of a job, in ticks at the top rate.
-const LARGEST_BUDGET: u32 = 65_535;
 
 /// The largest sum of the budgets that a day accepts.
 const LARGEST_SUM: u32 = 134_217_727;
@@ -33,31 +30,24 @@ impl Day {
     ) -> Result<u32, Refusal>
         ensures { elim result [ Ok number ↦ Releases (model self.old) (model self.new) (T.Trace.page trace.old) (T.Trace.page trace.new) deadline budget number | Err refusal ↦ Refused (or_no_room (T.Trace.page trace.old) 10 (release_refusal (model self.old) deadline budget)) refusal ((self.new ≡ self.old) × (trace.new ≡ trace.old)) ] }
     {
-        self.check_release(deadline, budget, trace)?;
-        let number = self.accept(deadline, budget);
-        record_release(number, deadline, budget, trace);
-        Ok(number)
-    }
-
-    /// Why a release on this trace is refused.
-    fn check_release<T: Trace>(&self, deadline: u32, budget: u32, trace: &T) -> Result<(), Refusal>
-        ensures { result_err result ≡ or_no_room (T.Trace.page trace.now) 10 (release_refusal (model self.now) deadline budget) }
-    {
         self.check_job(deadline, budget)?;
-        check_room(trace, CALL_WORDS)
+        trace.reserve(CALL_WORDS)?;
+        let number = self.accept(deadline, budget);
+        record_release(
+            Payload::of(number),
+            Payload::of(deadline),
+            Payload::of(budget),
+            trace,
+        );
+        Ok(number)
     }
 
     /// Why a job is refused, the trace left aside.
     fn check_job(&self, deadline: u32, budget: u32) -> Result<(), Refusal>
         ensures { result_err result ≡ release_refusal (model self.now) deadline budget }
     {
-        if budget == 0 || budget > LARGEST_BUDGET {
-            return Err(Refusal::Budget { budget });
-        }
-        if deadline <= self.clock || deadline > LAST_CLOCK {
-            return Err(Refusal::Deadline { deadline });
-        }
-        if !self.pending.has_place() {
+        Cue::check(self.clock, deadline, budget)?;
+        if self.pending.is_full() {
             return Err(Refusal::Pending {
                 most: MOST_PENDING as u32,
             });
@@ -75,17 +65,16 @@ impl Day {
         ensures day { model self.new ≡ released (model self.old) deadline budget }
     {
         let number = self.accepted + 1;
-        let remaining = budget * self.table.top_rate();
         let job = Job {
             number,
             deadline,
             budget,
-            remaining,
+            remaining: budget * self.table.top_rate(),
             stage: Stage::Waiting,
         };
         let first = self.first_with(&job);
         self.pending.push(job);
-        self.first = first;
+        self.first = Some(first);
         self.accepted = number;
         self.budgets += budget;
         number
@@ -94,16 +83,11 @@ impl Day {
     /// The place of the first job once this one, with a larger number than any, stands behind the others.
     fn first_with(&self, job: &Job) -> usize
         requires { (model self.now).accepted < job.now.number }
-        ensures { result ≡ first_place (items self.now.pending ++ job.now ∷ []) }
+        ensures { first_place (self.now.pending.items ++ job.now ∷ []) ≡ Some result }
     {
-        if self.pending.is_empty() {
-            return 0;
-        }
-        let first = self.pending.get(self.first);
-        if job.is_before(&first) {
-            self.pending.len()
-        } else {
-            self.first
+        match self.first {
+            Some(place) if !job.is_before(&self.pending[place]) => place,
+            _ => self.pending.len(),
         }
     }
 }

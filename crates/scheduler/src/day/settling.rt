@@ -1,89 +1,65 @@
-//! What a tick makes of the day: an idle one, and one that ran a job, once the renderer has answered.
+//! What a tick that ran a job makes of the day, once the renderer has answered.
 
-ghost use Rattle.std.specs.Prelude.{◌≡◌, ◌<◌, ◌≤◌, length};
-ghost use Rattle.renderers.specs.declared.answer.Answer.TheVariants.{Finished, Running};
+ghost use Rattle.std.specs.Prelude.{◌≡◌, ◌<◌, ◌≤◌};
 ghost use Rattle.scheduler.specs.Chooses.{Chooses};
-ghost use Rattle.scheduler.specs.Day.{after_idle, after_run, make_way, told};
+ghost use Rattle.scheduler.specs.Day.{after_run, make_way, told};
 ghost use Rattle.scheduler.specs.Good.{running};
 ghost use Rattle.scheduler.specs.Model.{model};
-ghost use Rattle.scheduler.specs.Pending.{items};
 ghost use Rattle.scheduler.specs.Places.{runner_place};
 
-use super::Day;
+use super::{Day, MOST_PENDING};
 use crate::chosen::Chosen;
+use crate::handed::Handed;
 use crate::job::Job;
-use crate::pending::Pending;
+use arrayvec::ArrayVec;
 use calls::ticked::Ran;
 use ordering::first_of;
 
 impl Day {
-    /// Lets a tick go by in which no job is pending.
-    pub(super) fn idle(&mut self)
-        requires { (length (model self.old).pending ≡ 0) × ((model self.old).clock < 134217727) }
-        ensures { model self.new ≡ after_idle (model self.old) }
-    {
-        self.clock += 1;
-    }
-
-    /// Lets a tick go by in which the chosen job ran, and told this.
+    /// Lets a tick go by in which the chosen job ran, and told this: the job stays pending with less remaining, or it is
+    /// over and hands its bound and its deadline on.
     pub(super) fn settle(&mut self, chosen: &Chosen, ran: &Ran)
         requires chosen { Chooses (model self.old) chosen.now }
         requires early { (model self.old).clock < 134217727 }
         requires told { ran.now ≡ told (model self.old) chosen.now.job chosen.now.level ran.now.answer }
         ensures { model self.new ≡ after_run (model self.old) chosen.now.job ran.now }
     {
+        let runner = self.running;
+        let clock = self.clock;
+        make_way(&mut self.pending, &chosen.job, runner, clock);
+        self.clock = clock + 1;
         match ran.ending {
-            None => self.go_on(chosen),
-            Some(_) => self.end(chosen),
+            None => {
+                self.pending[chosen.place] = chosen.run_on();
+                self.running = Some(chosen.place);
+            }
+            Some(_) => {
+                self.pending.remove(chosen.place);
+                self.first = first_of(self.pending.as_slice());
+                self.running = None;
+                self.handed = Handed {
+                    bound: chosen.bound,
+                    deadline: chosen.job.deadline,
+                };
+            }
         }
-    }
-
-    /// The chosen job stays pending, with less remaining.
-    fn go_on(&mut self, chosen: &Chosen)
-        requires chosen { Chooses (model self.old) chosen.now }
-        requires early { (model self.old).clock < 134217727 }
-        requires more { chosen.now.rate < chosen.now.job.remaining }
-        ensures { model self.new ≡ after_run (model self.old) chosen.now.job (told (model self.old) chosen.now.job chosen.now.level Running) }
-    {
-        let place = self.first;
-        let runner = self.running;
-        let clock = self.clock;
-        make_way(&mut self.pending, &chosen.job, runner, clock);
-        self.pending.set(place, chosen.run_on());
-        self.running = Some(place);
-        self.clock = clock + 1;
-    }
-
-    /// The chosen job is over, and hands its bound and its deadline on.
-    fn end(&mut self, chosen: &Chosen)
-        requires chosen { Chooses (model self.old) chosen.now }
-        requires early { (model self.old).clock < 134217727 }
-        ensures { model self.new ≡ after_run (model self.old) chosen.now.job (told (model self.old) chosen.now.job chosen.now.level Finished) }
-    {
-        let place = self.first;
-        let runner = self.running;
-        let clock = self.clock;
-        make_way(&mut self.pending, &chosen.job, runner, clock);
-        self.pending.remove(place);
-        self.first = first_of(self.pending.as_slice()).unwrap_or(0);
-        self.running = None;
-        self.handed_bound = chosen.bound;
-        self.handed_deadline = chosen.job.deadline;
-        self.clock = clock + 1;
     }
 }
 
 /// Sets the job that ran in the tick before aside, with the clock noted, unless it is the chosen one.
-fn make_way(pending: &mut Pending, chosen: &Job, runner: Option<usize>, clock: u32)
-    requires { (runner_place (items pending.old) ≡ runner) × (running (items pending.old) ≤ 1) }
-    ensures { items pending.new ≡ make_way chosen.now clock (items pending.old) }
+fn make_way(
+    pending: &mut ArrayVec<Job, MOST_PENDING>,
+    chosen: &Job,
+    runner: Option<usize>,
+    clock: u32,
+)
+    requires { (runner_place pending.old.items ≡ runner) × (running pending.old.items ≤ 1) }
+    ensures { pending.new.items ≡ make_way chosen.now clock pending.old.items }
 {
     if chosen.stage.is_running() {
         return;
     }
     if let Some(place) = runner {
-        let mut job = pending.get(place);
-        job.stage = job.stage.set_aside(clock);
-        pending.set(place, job);
+        pending[place].stage = pending[place].stage.set_aside(clock);
     }
 }

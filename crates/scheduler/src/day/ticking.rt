@@ -2,7 +2,6 @@
 //! of it is told and recorded.
 
 ghost use Rattle.std.specs.Prelude.{◌≡◌, ◌<◌, Ok, Err};
-ghost use Rattle.std.specs.Result.{result_err};
 ghost use Rattle.scheduler.specs.Day.{Told, after_tick, tick_refusal};
 ghost use Rattle.scheduler.specs.Marks.{or_no_room};
 ghost use Rattle.scheduler.specs.Model.{model};
@@ -10,7 +9,7 @@ ghost use Rattle.scheduler.specs.Outcomes.{Asked, Refused, Rendered, Ticks};
 ghost use Rattle.scheduler.specs.Writable.{TickedFits};
 
 use super::{CALL_WORDS, Day, LAST_CLOCK};
-use crate::recording::{check_room, record_tick};
+use crate::recording::record_tick;
 use calls::refusal::Refusal;
 use calls::ticked::Ticked;
 use rates::Policy;
@@ -31,20 +30,13 @@ impl Day {
         ensures policy { elim result [ Ok t ↦ Asked P.Policy.tells (model self.old) t policy.old policy.new | Err refusal ↦ policy.new ≡ policy.old ] }
         ensures renderer { elim result [ Ok t ↦ Rendered R.Renderer.meaning R.Renderer.tells t renderer.old renderer.new | Err refusal ↦ renderer.new ≡ renderer.old ] }
     {
-        self.check_tick(trace)?;
-        let ticked = self.pass(policy, renderer);
-        record_tick(ticked, trace);
-        Ok(ticked)
-    }
-
-    /// Why a tick on this trace is refused.
-    fn check_tick<T: Trace>(&self, trace: &T) -> Result<(), Refusal>
-        ensures { result_err result ≡ or_no_room (T.Trace.page trace.now) 10 (tick_refusal (model self.now)) }
-    {
         if self.clock >= LAST_CLOCK {
             return Err(Refusal::Clock { clock: self.clock });
         }
-        check_room(trace, CALL_WORDS)
+        trace.reserve(CALL_WORDS)?;
+        let ticked = self.pass(policy, renderer);
+        record_tick(ticked, trace);
+        Ok(ticked)
     }
 
     /// The tick itself: idle, or a run of the first pending job.
@@ -56,11 +48,11 @@ impl Day {
         ensures policy { Asked P.Policy.tells (model self.old) result policy.old policy.new }
         ensures renderer { Rendered R.Renderer.meaning R.Renderer.tells result renderer.old renderer.new }
     {
-        if self.pending.is_empty() {
-            self.idle();
+        let Some(place) = self.first else {
+            self.clock += 1;
             return Ticked::Idle;
-        }
-        let chosen = self.choose(policy);
+        };
+        let chosen = self.choose(place, policy);
         let ran = chosen.run(renderer);
         self.settle(&chosen, &ran);
         Ticked::Ran(ran)

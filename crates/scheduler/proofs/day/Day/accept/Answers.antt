@@ -1,10 +1,8 @@
 use Rattle.std.proofs.Common.{◌≡◌, ℕ, ◌+◌, ◌*◌, List, [], ◌∷◌, ◌++◌, sym, refl, ap, ◌∙◌, arith}
-use Rattle.std.specs.Option.{option_to_list}
 use Rattle.rates.specs.Table.{rates_of, top_rate}
 use Rattle.scheduler.specs.declared.job.Job.{Job}
 use Rattle.scheduler.specs.declared.job.Stage.TheVariants.{Waiting}
 use Rattle.scheduler.specs.Day.{DayState, arrived}
-use Rattle.scheduler.specs.Pending.{items}
 use Rattle.scheduler.specs.Places.{first_place, runner_place}
 use Rattle.scheduler.proofs.KeptPlaces.{good, led_on}
 use Rattle.scheduler.proofs.Runner.{runner-push}
@@ -17,7 +15,7 @@ overflow_add-number c =
 pub invariant_of-self : goal.invariant_of-self
 invariant_of-self c =
     let day = c.args.self.now in
-    let js = items day.pending in
+    let js = day.pending.items in
     let job : ℕ → Job =
     λ rate.
     record {
@@ -27,8 +25,8 @@ invariant_of-self c =
       remaining = c.args.budget * rate;
       stage = Waiting;
     } in
-    let pushed : items c.push.new.self ≡ js ++ job (top_rate (rates_of day.table)) ∷ [] =
-    c.push.ensures ∙ ap (λ rate. js ++ job rate ∷ []) c.top_rate.ensures in
+    let pushed : c.push.new.self.items ≡ js ++ job (top_rate (rates_of day.table)) ∷ [] =
+    c.push.ensures.items ∙ ap (λ rate. js ++ job rate ∷ []) c.top_rate.ensures in
     let state : List Job → DayState =
     λ pending.
     record {
@@ -37,11 +35,11 @@ invariant_of-self c =
       accepted = day.accepted + 1;
       budgets = day.budgets + c.args.budget;
       pending = pending;
-      handed_bound = day.handed_bound;
-      handed_deadline = day.handed_deadline;
+      handed_bound = day.handed.bound;
+      handed_deadline = day.handed.deadline;
     } in
     record {
       reached = led_on day (arrived c.args.deadline c.args.budget) _ c.requires (ap state (sym pushed));
-      first_holds = c.first_with-first.ensures ∙ ap first_place (sym c.push.ensures);
-      running_holds = day.running_holds ∙ ap option_to_list (sym (ap runner_place pushed ∙ runner-push js _ refl));
+      first_holds = ap first_place c.push.ensures.items ∙ c.first_with-first.ensures;
+      running_holds = ap runner_place pushed ∙ runner-push js _ refl ∙ day.running_holds;
     }

@@ -1,28 +1,20 @@
-use Rattle.std.proofs.Common.{◌<◌, length, sym, ◌∙◌, arith}
+use Rattle.std.proofs.Common.{Some, sym, ap, ◌∙◌}
 use Rattle.std.proofs.lemmas.Bool.{cond-true, cond-false}
-use Rattle.std.proofs.lemmas.Bool.Decides.{nat_tests}
-use Rattle.scheduler.specs.Pending.{items}
-use Rattle.scheduler.proofs.KeptPlaces.{kept_within, kept_first_push}
+use Rattle.scheduler.proofs.KeptPlaces.{place-push, place-alone}
 use Rattle.scheduler.proofs.day.Day.first_with.Goals as goal
+use Rattle.scheduler.proofs.day.Day.first_with.Goals.{in_default-via-in-Some+else-not-is_before, in_default-via-in_default}
 
-pub get-first-requires : goal.get-first-requires
-get-first-requires c =
-    let some : 0 < length (items c.args.self.now.pending) = grind (arith, nat_tests) in
-    kept_within c.args.self.now some
+pub returns-in-Some : goal.returns-in-Some
+returns-in-Some c =
+    place-push c.args.self.now c.in-Some.place c.args.job.now c.deref.result.now c.requires c.in-Some.is c.deref.ensures.0
+    ∙ ap Some (cond-false _ _ _ (sym c.is_before.ensures ∙ c.if-not-is_before.true))
 
-pub returns-then-is_before : goal.returns-then-is_before
-returns-then-is_before c =
-    let day = c.args.self.now in
-    let some : 0 < length (items day.pending) = grind (arith, nat_tests) in
-    c.len.ensures
-    ∙ sym
-    (kept_first_push day c.args.job.now c.get-first.result c.requires some c.get-first.ensures
-    ∙ cond-true _ _ _ (sym c.if-is_before.ensures))
-
-pub returns-else-is_before : goal.returns-else-is_before
-returns-else-is_before c =
-    let day = c.args.self.now in
-    let some : 0 < length (items day.pending) = grind (arith, nat_tests) in
-    sym
-    (kept_first_push day c.args.job.now c.get-first.result c.requires some c.get-first.ensures
-    ∙ cond-false _ _ _ (sym c.if-is_before.ensures))
+pub returns-in_default : goal.returns-in_default
+returns-in_default c =
+    elim c.in_default.branch [
+      | in_default-via-in-Some+else-not-is_before w ↦
+          place-push c.args.self.now w.in-Some.place c.args.job.now w.deref.result.now c.requires w.in-Some.is w.deref.ensures.0
+          ∙ ap Some (cond-true _ _ _ (sym w.is_before.ensures ∙ w.if-not-is_before.false) ∙ sym c.len.ensures.value)
+      | in_default-via-in_default w ↦
+          place-alone c.args.self.now c.args.job.now w.in_default.is ∙ ap Some (sym c.len.ensures.value)
+    ]

@@ -1,24 +1,27 @@
-use Rattle.std.proofs.Common.{get_or, Some, sym, ap, ◌∙◌}
+use Rattle.std.proofs.Common.{length, get_or, Some, sym, ap, ◌∙◌, arith}
 use Rattle.std.specs.Option.{option_map}
-use Rattle.scheduler.specs.declared.job.Job.{Job}
-use Rattle.scheduler.specs.declared.job.Stage.TheVariants.{Waiting}
-use Rattle.scheduler.specs.Pending.{items}
+use Rattle.scheduler.proofs.Choosing.{no_job}
 use Rattle.scheduler.proofs.KeptPlaces.{kept_runner_number, kept_runner_within}
 use Rattle.scheduler.proofs.day.Day.runner.Goals as goal
 
-pub get-requires : goal.get-requires
-get-requires c = kept_runner_within c.args.self.now c.in-Some.place c.in-Some.is
-
-pub returns-in-Some : goal.returns-in-Some
-returns-in-Some c =
+pub returns : goal.returns
+returns c =
     let day = c.args.self.now in
-    let found = c.get.result in
-    ap (λ (j : Job). Some j.number) c.get.ensures
+    let place = c.in_ok-place.place in
+    ap (λ qs. Some (get_or qs place no_job).number) c.deref.ensures.0
     ∙ sym
-    (kept_runner_number day found ∙ ap (option_map (λ p. (get_or (items day.pending) p found).number)) c.in-Some.is)
+    (kept_runner_number day no_job ∙ ap (option_map (λ p. (get_or day.pending.items p no_job).number)) c.in_ok-place.was)
 
-pub returns-in-None : goal.returns-in-None
-returns-in-None c =
+pub returns-in_err-place : goal.returns-in_err-place
+returns-in_err-place c =
     let day = c.args.self.now in
-    let any : Job = record { number = 0; deadline = 0; budget = 0; remaining = 0; stage = Waiting } in
-    sym (kept_runner_number day any ∙ ap (option_map (λ p. (get_or (items day.pending) p any).number)) c.in-None.is)
+    let nobody = kept_runner_number day no_job ∙ ap (option_map (λ p. (get_or day.pending.items p no_job).number)) c.in_err-place.was in
+    c.from_residual.ensures ∙ sym nobody
+
+pub offset_bounds-deref-place : goal.offset_bounds-deref-place
+offset_bounds-deref-place c =
+    omega (arith, kept_runner_within c.args.self.now c.in_ok-place.place c.in_ok-place.was, ap length c.deref.ensures.0, c.deref.ensures.1)
+
+pub bounds-deref-place : goal.bounds-deref-place
+bounds-deref-place c =
+    omega (arith, kept_runner_within c.args.self.now c.in_ok-place.place c.in_ok-place.was, ap length c.deref.ensures.0)

@@ -12,9 +12,9 @@ use Rattle.scheduler.proofs.day.Day.starting_bound.Goals as goal
 starting :
     (d : Day) (j : Job) (somebody : Bool) → somebody ≡ is_some d.running →
     starting_bound (model d) j
-    ≡ chosen_bound waiting somebody d.clock d.handed_bound d.handed_deadline j.budget j.deadline
+    ≡ chosen_bound waiting somebody d.clock d.handed.bound d.handed.deadline j.budget j.deadline
 starting d j somebody e =
-    ap (λ b. chosen_bound waiting b d.clock d.handed_bound d.handed_deadline j.budget j.deadline)
+    ap (λ b. chosen_bound waiting b d.clock d.handed.bound d.handed.deadline j.budget j.deadline)
     (kept_somebody d j ∙ sym e)
 
 counted : (b : Bool) (m n budget : ℕ) → cond b m n + budget ≡ cond b (m + budget) (n + budget)
@@ -24,7 +24,7 @@ counted false m n budget = refl
 -- That clock is the day's or the handed bound.
 free_from_low : (d : Day) (j : Job) → free_from (model d) j ≤ d.clock + d.budgets
 free_from_low d j =
-    cond_both _ d.clock d.handed_bound (λ n. n ≤ d.clock + d.budgets) (λ _. omega arith) (λ _. (good d).handed_low)
+    cond_both _ d.clock d.handed.bound (λ n. n ≤ d.clock + d.budgets) (λ _. omega arith) (λ _. (good d).handed_low)
 
 pub overflow_add-result : goal.overflow_add-result
 overflow_add-result c = omega (arith, (good c.args.self.now).clock_low)
@@ -42,5 +42,5 @@ returns c =
     let day = c.args.self.now in
     let job = c.args.job.now in
     ap (λ n. n + job.budget) c.free_from.ensures
-    ∙ counted _ day.clock day.handed_bound job.budget
+    ∙ counted _ day.clock day.handed.bound job.budget
     ∙ sym (starting day job false c.if-is_some.ensures)

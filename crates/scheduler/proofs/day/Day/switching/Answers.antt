@@ -4,13 +4,13 @@ use Rattle.scheduler.proofs.KeptPlaces.{first_good, first_fits}
 use Rattle.scheduler.proofs.day.Day.switching.Goals as goal
 
 pub bound_of-bound-requires : goal.bound_of-bound-requires
-bound_of-bound-requires g c = first_good c.args.self.now c.args.job c.requires.0
+bound_of-bound-requires g c = first_good c.args.self.now c.args.job c.requires.0.first
 
 pub level_for-level-requires : goal.level_for-level-requires
 level_for-level-requires g c =
     let day = c.args.self.now in
     let job = c.args.job in
-    let fits = first_fits day job c.requires.0 in
+    let fits = first_fits day job c.requires.0.first in
     let enough : ℕ → Type 0 =
     λ bound. (day.clock < bound) × (job.remaining ≤ top_rate (rates_of day.table) * (bound - day.clock)) in
     subst enough (sym c.bound_of-bound.ensures) (fits.0, fits.2)

@@ -1,32 +1,51 @@
-use Rattle.std.proofs.Common.{set, sym, ap, ◌∙◌}
+use Rattle.std.proofs.Common.{List, length, get_or, set, sym, ap, ◌∙◌, arith}
+use Rattle.std.proofs.lemmas.List.{get_or_default}
+use Rattle.scheduler.specs.declared.job.Job.{Job}
 use Rattle.scheduler.specs.declared.job.Stage.{Stage}
-use Rattle.scheduler.specs.Pending.{items}
+use Rattle.scheduler.specs.Day.{set_aside}
+use Rattle.scheduler.proofs.Choosing.{no_job}
 use Rattle.scheduler.proofs.Runner.{runner-within, make_way_one, make_way_none}
+use Rattle.scheduler.proofs.Written.{written}
 use Rattle.scheduler.proofs.day.settling.make_way.Goals as goal
 
-pub get-job-requires : goal.get-job-requires
-get-job-requires c = runner-within (items c.args.pending.now) c.in-Some.place (c.requires.0 ∙ c.in-Some.is)
+pub offset_bounds-deref-place : goal.offset_bounds-deref-place
+offset_bounds-deref-place c =
+    let within = runner-within c.args.pending.now.items c.in-Some.place (c.requires.0 ∙ c.in-Some.is) in
+    omega (arith, within, ap length c.deref.ensures.0, c.deref.ensures.1)
 
-pub set-requires : goal.set-requires
-set-requires c = runner-within (items c.args.pending.now) c.in-Some.place (c.requires.0 ∙ c.in-Some.is)
+pub bounds-deref-place : goal.bounds-deref-place
+bounds-deref-place c =
+    let within = runner-within c.args.pending.now.items c.in-Some.place (c.requires.0 ∙ c.in-Some.is) in
+    omega (arith, within, ap length c.deref.ensures.0)
+
+pub offset_bounds-deref_mut-place : goal.offset_bounds-deref_mut-place
+offset_bounds-deref_mut-place c =
+    let within = runner-within c.args.pending.now.items c.in-Some.place (c.requires.0 ∙ c.in-Some.is) in
+    omega (arith, within, ap length c.deref_mut.ensures.value, c.deref_mut.ensures.fits)
+
+pub bounds-deref_mut-place : goal.bounds-deref_mut-place
+bounds-deref_mut-place c =
+    let within = runner-within c.args.pending.now.items c.in-Some.place (c.requires.0 ∙ c.in-Some.is) in
+    omega (arith, within, ap length c.deref_mut.ensures.value)
 
 pub returns-in-Some : goal.returns-in-Some
 returns-in-Some c =
-    let js = items c.args.pending.now in
+    let js = c.args.pending.now.items in
     let place = c.in-Some.place in
-    let job = c.get-job.result in
-    c.set.ensures
-    ∙ ap
-    (λ (stage : Stage).
-    set js place
-    (record { number = job.number; deadline = job.deadline; budget = job.budget; remaining = job.remaining; stage = stage }))
-    c.set_aside-job.ensures
+    let at = c.requires.0 ∙ c.in-Some.is in
+    let aside : List Job → Stage → Job =
+    λ qs stage.
+    let j = get_or qs place no_job in
+    record { number = j.number; deadline = j.deadline; budget = j.budget; remaining = j.remaining; stage = stage } in
+    written js c.deref_mut.result.now place (aside c.deref_mut.result.now c.set_aside.result) c.deref_mut.ensures.value
+    ∙ ap (λ qs. set js place (aside qs c.set_aside.result)) c.deref_mut.ensures.value
+    ∙ ap (λ stage. set js place (aside js stage)) (c.set_aside.ensures ∙ ap (λ (qs : List Job). set_aside c.args.clock (get_or qs place no_job).stage) c.deref.ensures.0)
     ∙ sym
-    (make_way_one c.args.chosen.now c.args.clock js place job (sym c.if-is_running.ensures) c.requires.1
-    (c.requires.0 ∙ c.in-Some.is) c.get-job.ensures)
+    (make_way_one c.args.chosen.now c.args.clock js place (get_or js place no_job) (sym c.if-is_running.ensures) c.requires.1 at
+    (get_or_default js place no_job (get_or js place no_job) (runner-within js place at)))
 
 pub returns-in_default : goal.returns-in_default
 returns-in_default c =
     sym
-    (make_way_none c.args.chosen.now c.args.clock (items c.args.pending.now) (sym c.if-is_running.ensures)
+    (make_way_none c.args.chosen.now c.args.clock c.args.pending.now.items (sym c.if-is_running.ensures)
     (c.requires.0 ∙ c.in_default.is))
