@@ -7,22 +7,21 @@ ghost use Rattle.boundary.specs.Rounds.{Found, Told};
 mod ticks;
 
 use sheet::read::ReadSheet;
-use std::alloc::Global;
+use std::alloc::{AllocError, Global};
 
 /// The demand of a sheet's loading factor, found `rounds` times over.
-fn demand_after(heap: Global, sheet: &ReadSheet, rounds: u32) -> Option<u32>
+fn demand_after(heap: Global, sheet: &ReadSheet, rounds: u32) -> Result<u32, AllocError>
     ensures { Found sheet.now rounds result }
 {
     let mut demand = 0;
     for _ in 0..rounds {
-        let Ok((found, _, _, _)) = sheet.loading_factor(heap) else {
-            return None;
-        };
+        let (found, _, _, _) = sheet.loading_factor(heap)?;
         demand = found;
     }
-    Some(demand)
+    Ok(demand)
 }
 
+// To C a result is one number, so the largest number stands for every failure.
 /// Reads a sheet, finds its loading factor `rounds` times over, and tells its demand; the largest number for a sheet
 /// that cannot be read or for want of memory. For timing: one round tells as much as many.
 #[unsafe(no_mangle)]
@@ -32,10 +31,7 @@ pub extern "C" fn patchbasalt_load(heap: Global, sheet: &[u8], rounds: u32) -> u
     let Ok(read) = ReadSheet::from_bytes(heap, sheet) else {
         return u64::MAX;
     };
-    match demand_after(heap, &read, rounds) {
-        Some(demand) => u64::from(demand),
-        None => u64::MAX,
-    }
+    demand_after(heap, &read, rounds).map_or(u64::MAX, u64::from)
 }
 
 pub use ticks::patchbasalt_ticks;

@@ -39,12 +39,8 @@ fn tick_on(day: &mut Day, ticks: u32)
 pub extern "C" fn patchbasalt_ticks(jobs: u32, ticks: u32) -> u32
     ensures { result ≡ min ticks 134217727 }
 {
-    let Ok(table) = RateTable::new(&[7, 10, 12, 14]) else {
-        unreachable()
-    };
-    let Ok(mut day) = Day::open(table, &mut NoWords) else {
-        unreachable()
-    };
+    let table = RateTable::new(&[7, 10, 12, 14]).unwrap();
+    let mut day = Day::open(table, &mut NoWords).unwrap();
     release_jobs(&mut day, jobs);
     tick_on(&mut day, ticks);
     day.clock()

@@ -1,5 +1,4 @@
 //! The calls of a day as values, and what they are answered with.
-use crate::refusal::Refusal;
 use crate::ticked::Ticked;
 
 /// A call of an open day.
@@ -9,11 +8,10 @@ pub enum Call {
     Tick,
 }
 
-/// The answer to a call.
+/// What a call that is accepted is answered with. One that is refused is answered with its refusal.
 #[derive(Clone, Copy, PartialEq, Eq, Debug)]
 pub enum Reply {
     /// The job was accepted under this number.
     Released(u32),
     Ticked(Ticked),
-    Refused(Refusal),
 }

@@ -1,5 +1,6 @@
 -- What a rehearsal comes to, put together from what its calls promise.
-use Rattle.std.proofs.Common.{◌≡◌, ℕ, ◌+◌, ◌≤◌, cond, List, [], ◌∷◌, ◌++◌, length, take, drop, Some, None, vec_items, Option, sym, refl, ap, ◌∙◌, subst, append_assoc, arith, le-ltb}
+use Rattle.std.proofs.Common.{◌≡◌, ℕ, ◌+◌, ◌≤◌, cond, List, [], ◌∷◌, ◌++◌, length, take, drop, Some, None, Ok, Err, vec_items, Option, Result, sym, refl, ap, ◌∙◌, subst, append_assoc, arith, le-ltb}
+use Rattle.std.specs.Result.{MatchResult}
 use Rattle.std.proofs.lemmas.List.{take_at, take-take}
 use Rattle.recorder.specs.Page.{blank}
 use Rattle.renderers.specs.declared.answer.Answer.{Answer}
@@ -8,7 +9,8 @@ use Rattle.renderers.specs.Requests.{fresh}
 use Rattle.renderers.specs.Tape.{Read, InTurn}
 use Rattle.calls.specs.declared.call.Call.{Call}
 use Rattle.calls.specs.declared.call.Reply.{Reply}
-use Rattle.calls.specs.declared.call.Reply.TheVariants.{Released, Ticked as ticked_reply, Refused}
+use Rattle.calls.specs.declared.call.Reply.TheVariants.{Released, Ticked as ticked_reply}
+use Rattle.calls.specs.declared.refusal.Refusal.{Refusal}
 use Rattle.playing.specs.declared.play.PlayError.{PlayError}
 use Rattle.playing.specs.declared.play.PlayError.TheVariants.{Refused as not_opened, NoMemory}
 use Rattle.calls.specs.declared.refusal.Refusal.TheVariants.{Room}
@@ -42,10 +44,10 @@ module _ {P Q : Type 0} (f : P → Q) (tells : P → List ℕ → ℕ → ℕ �
   tick-weaker day Idle p p' same = ap f same
   tick-weaker day (ran r) p p' asked = first-weaker day r (first_job day.pending) p p' asked
 
-  call-weaker : (day : DayState) (reply : Reply) (p p' : P) → AskedIn tells day reply p p' → AskedIn tells' day reply (f p) (f p')
-  call-weaker day (Released number) p p' same = ap f same
-  call-weaker day (ticked_reply t) p p' asked = tick-weaker day t p p' asked
-  call-weaker day (Refused refusal) p p' same = ap f same
+  call-weaker : (day : DayState) (reply : Result Reply Refusal) (p p' : P) → AskedIn tells day reply p p' → AskedIn tells' day reply (f p) (f p')
+  call-weaker day (Ok (Released number)) p p' same = ap f same
+  call-weaker day (Ok (ticked_reply t)) p p' asked = tick-weaker day t p p' asked
+  call-weaker day (Err refusal) p p' same = ap f same
 
   pub asked-weaker : (day : DayState) (xs : List Exchange) (p p' : P) → AskedThrough tells day xs p p' → AskedThrough tells' day xs (f p) (f p')
   asked-weaker day [] p p' same = ap f same
@@ -58,10 +60,10 @@ module _ {R : Type 0} (coming : R → List ℕ) (tells : R → ℕ → ℕ → A
   tick-in-turn Idle more r r' rest same later = subst (λ q. InTurn (coming q) more rest) same later
   tick-in-turn (ran t) more r r' rest run later = (coming r', reads r _ _ _ r' run, later)
 
-  call-in-turn : (reply : Reply) (more : List Answer) (r r' : R) (rest : List ℕ) → RunIn tells reply r r' → InTurn (coming r') more rest → InTurn (coming r) (reply_answers reply ++ more) rest
-  call-in-turn (Released number) more r r' rest same later = subst (λ q. InTurn (coming q) more rest) same later
-  call-in-turn (ticked_reply t) more r r' rest run later = tick-in-turn t more r r' rest run later
-  call-in-turn (Refused refusal) more r r' rest same later = subst (λ q. InTurn (coming q) more rest) same later
+  call-in-turn : (reply : Result Reply Refusal) (more : List Answer) (r r' : R) (rest : List ℕ) → RunIn tells reply r r' → InTurn (coming r') more rest → InTurn (coming r) (reply_answers reply ++ more) rest
+  call-in-turn (Ok (Released number)) more r r' rest same later = subst (λ q. InTurn (coming q) more rest) same later
+  call-in-turn (Ok (ticked_reply t)) more r r' rest run later = tick-in-turn t more r r' rest run later
+  call-in-turn (Err refusal) more r r' rest same later = subst (λ q. InTurn (coming q) more rest) same later
 
   pub run-in-turn : (xs : List Exchange) (r r' : R) → RunThrough tells xs r r' → InTurn (coming r) (answers xs) (coming r')
   run-in-turn [] r r' same = ap coming same
@@ -77,6 +79,11 @@ only_memory A words rates (not_opened refusal) many few not-played =
     let never : None ≡ Some refusal = sym opens ∙ not-played.because in
     let z : ◌≡◌ {A = ℕ} 0 1 = cc in
     absurd (omega arith)
+
+-- Where another error takes the place of an error, what is well stays as it is.
+pub kept_ok : {T E : Type 0} (D : Type 0) (r : Result T E) (x : T) → MatchResult r (λ y. ◌≡◌ {A = Result T D} (Ok x) (Ok y)) (λ _. ⊥) → r ≡ Ok x
+kept_ok D (Ok y) x same = cc
+kept_ok D (Err e) x lost = absurd lost
 
 -- What a vector holds whose slice was lent and came back with the trace in front.
 pub trace_taken :

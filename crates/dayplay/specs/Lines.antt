@@ -1,8 +1,9 @@
 -- The line that tells of a call.
-use Rattle.std.specs.Prelude.{ℕ, List, [], ◌++◌, Some, None, codes, decimal, Option}
+use Rattle.std.specs.Prelude.{ℕ, List, [], ◌++◌, Some, None, Ok, Err, codes, decimal, Option, Result}
 use Rattle.calls.specs.Refusals.{number_of, value_of}
 use Rattle.calls.specs.declared.call.Reply.{Reply}
-use Rattle.calls.specs.declared.call.Reply.TheVariants.{Released, Ticked as a_tick, Refused}
+use Rattle.calls.specs.declared.call.Reply.TheVariants.{Released, Ticked as a_tick}
+use Rattle.calls.specs.declared.refusal.Refusal.{Refusal}
 use Rattle.calls.specs.declared.ticked.Ticked.{Ticked}
 use Rattle.calls.specs.declared.ticked.Ticked.TheVariants.{Idle, Ran as a_run}
 use Rattle.calls.specs.declared.ticked.Switch.{Switch}
@@ -44,7 +45,7 @@ tick_line (a_run ran) =
     codes "job " ++ (decimal ran.job ++ (switch_part ran.switch ++ (codes " rate " ++ (decimal ran.rate ++ ending_part ran.ending))))
 
 -- The line of a call.
-abbrev pub line_of : Reply → List ℕ
-line_of (Released job) = codes "release " ++ decimal job
-line_of (a_tick ticked) = tick_line ticked
-line_of (Refused refusal) = refused_line (number_of refusal) (value_of refusal)
+abbrev pub line_of : Result Reply Refusal → List ℕ
+line_of (Ok (Released job)) = codes "release " ++ decimal job
+line_of (Ok (a_tick ticked)) = tick_line ticked
+line_of (Err refusal) = refused_line (number_of refusal) (value_of refusal)

@@ -1,26 +1,27 @@
 //! How the answer to a call is told: one line a call.
-ghost use Rattle.std.specs.Prelude.{Some};
-ghost use Rattle.dayplay.specs.Lines.{refused_line, aside_part, turn_part, switch_part, ending_part, tick_line, line_of};
+ghost use Rattle.std.specs.Prelude.{◌≡◌, Some};
+ghost use Rattle.calls.specs.Refusals.{number_of, value_of};
+ghost use Rattle.dayplay.specs.Lines.{refused_line, aside_part, turn_part, switch_part, ending_part, line_of};
+ghost use Rattle.rates.specs.Refusal.{number_of as table_number, value_of as table_value};
 
 use calls::call::Reply;
+use calls::refusal::Refusal;
 use calls::ticked::{Ending, Switch, Ticked, Turn};
+use rates::TableRefusal;
 use std::fmt;
 
 /// The line of a call.
 #[derive(Clone, Copy)]
-pub struct Line(pub Reply);
+pub struct Line(pub Result<Reply, Refusal>);
 
 /// The line of a refusal: its number and its value.
 #[derive(Clone, Copy)]
 pub struct RefusedLine {
-    pub number: u32,
-    pub value: usize,
+    number: u32,
+    value: usize,
 }
 
-// The line of a tick, and its parts.
-#[derive(Clone, Copy)]
-struct TickLine(Ticked);
-
+// The parts of a tick's line. Each is a type, since this crate can write `Display` for its own types alone.
 #[derive(Clone, Copy)]
 struct SwitchPart(Option<Switch>);
 
@@ -33,18 +34,43 @@ struct TurnPart(Turn);
 #[derive(Clone, Copy)]
 struct EndingPart(Option<Ending>);
 
+impl From<Refusal> for RefusedLine {
+    ghost from_gives = { λ refusal line. (line.number ≡ number_of refusal) × (line.value ≡ value_of refusal) };
+
+    fn from(refusal: Refusal) -> RefusedLine {
+        RefusedLine {
+            number: refusal.number(),
+            value: refusal.value(),
+        }
+    }
+}
+
+impl From<TableRefusal> for RefusedLine {
+    ghost from_gives = { λ cause line. (line.number ≡ table_number cause) × (line.value ≡ table_value cause) };
+
+    fn from(cause: TableRefusal) -> RefusedLine {
+        RefusedLine {
+            number: cause.number(),
+            value: cause.value(),
+        }
+    }
+}
+
 impl fmt::Display for Line {
     ghost output = { λ line. Some (line_of line.0) };
 
     fn fmt<W: fmt::Write>(&self, f: &mut fmt::Formatter<W>) -> fmt::Result {
         match self.0 {
-            Reply::Released(job) => write!(f, "release {job}"),
-            Reply::Ticked(ticked) => write!(f, "{}", TickLine(ticked)),
-            Reply::Refused(refusal) => {
-                let number = refusal.number();
-                let value = refusal.value();
-                write!(f, "{}", RefusedLine { number, value })
+            Ok(Reply::Released(job)) => write!(f, "release {job}"),
+            Ok(Reply::Ticked(Ticked::Idle)) => write!(f, "idle"),
+            Ok(Reply::Ticked(Ticked::Ran(ran))) => {
+                let job = ran.job;
+                let switch = SwitchPart(ran.switch);
+                let rate = ran.rate;
+                let ending = EndingPart(ran.ending);
+                write!(f, "job {job}{switch} rate {rate}{ending}")
             }
+            Err(refusal) => write!(f, "{}", RefusedLine::from(refusal)),
         }
     }
 }
@@ -53,26 +79,8 @@ impl fmt::Display for RefusedLine {
     ghost output = { λ line. Some (refused_line line.number line.value) };
 
     fn fmt<W: fmt::Write>(&self, f: &mut fmt::Formatter<W>) -> fmt::Result {
-        let number = self.number;
-        let value = self.value;
+        let RefusedLine { number, value } = *self;
         write!(f, "refused {number} {value}")
-    }
-}
-
-impl fmt::Display for TickLine {
-    ghost output = { λ line. Some (tick_line line.0) };
-
-    fn fmt<W: fmt::Write>(&self, f: &mut fmt::Formatter<W>) -> fmt::Result {
-        match self.0 {
-            Ticked::Idle => write!(f, "idle"),
-            Ticked::Ran(ran) => {
-                let job = ran.job;
-                let switch = SwitchPart(ran.switch);
-                let rate = ran.rate;
-                let ending = EndingPart(ran.ending);
-                write!(f, "job {job}{switch} rate {rate}{ending}")
-            }
-        }
     }
 }
 

@@ -8,7 +8,8 @@ mod rehearsal;
 mod tests;
 
 use line::RefusedLine;
-use rehearsal::{Prepared, prepare, rehearse};
+use rehearsal::{PrepareError, Prepared, prepare, rehearse};
+use std::alloc::AllocError;
 use std::io;
 use std::io::Read;
 
@@ -19,13 +20,10 @@ fn main(rt: HostRuntime) -> io::Result<()> {
     let heap = rt.alloc();
     let mut bytes = Vec::new(heap);
     rt.stdin().take(MOST_BYTES).read_to_end(&mut bytes)?;
-    match prepare(heap, bytes.as_slice())? {
-        Prepared::WrongScript { place } => println!(rt; "script {place}"),
-        Prepared::WrongTable(refusal) => {
-            let number = refusal.number();
-            let value = refusal.value();
-            println!(rt; "{}", RefusedLine { number, value })
-        }
-        Prepared::Ready { table, script } => print!(rt; "{}", rehearse(heap, table, &script)?),
+    match prepare(heap, bytes.as_slice()) {
+        Ok(Prepared { table, script }) => print!(rt; "{}", rehearse(heap, table, &script)?),
+        Err(PrepareError::WrongScript { place }) => println!(rt; "script {place}"),
+        Err(PrepareError::WrongTable(refusal)) => println!(rt; "{}", RefusedLine::from(refusal)),
+        Err(PrepareError::NoMemory) => Err(AllocError.into()),
     }
 }

@@ -14,10 +14,7 @@ use std::test::Fail;
 fn read(heap: Global, words: &[u32]) -> Result<Script, ScriptError> {
     let mut bytes = Vec::new(heap);
     for word in words {
-        match bytes.extend_from_slice(&word.to_be_bytes()) {
-            Ok(()) => {}
-            Err(_) => return Err(ScriptError::NoMemory),
-        }
+        bytes.extend_from_slice(&word.to_be_bytes())?;
     }
     read_script(heap, bytes.as_slice())
 }
@@ -99,10 +96,10 @@ fn a_rehearsal_is_told_line_by_line(rt: HostRuntime) -> Result<(), Fail> {
         ending: Some(Ending::Failed(7)),
     };
     let replies = vec![in heap;
-        Reply::Released(3),
-        Reply::Ticked(Ticked::Ran(ran)),
-        Reply::Ticked(Ticked::Idle),
-        Reply::Refused(Refusal::Deadline { deadline: 1 }),
+        Ok(Reply::Released(3)),
+        Ok(Reply::Ticked(Ticked::Ran(ran))),
+        Ok(Reply::Ticked(Ticked::Idle)),
+        Err(Refusal::Deadline { deadline: 1 }),
     ]?;
     let rehearsal = Rehearsal {
         replies,
@@ -126,7 +123,7 @@ fn a_job_that_runs_on_is_told_without_a_switch(rt: HostRuntime) -> Result<(), Fa
         answer: Answer::Running,
         ending: None,
     };
-    let line = Line(Reply::Ticked(Ticked::Ran(ran)));
+    let line = Line(Ok(Reply::Ticked(Ticked::Ran(ran))));
     assert_eq!(rt;
         format!(in rt.alloc(); "{line}")?.as_str(),
         "job 2 rate 12 running"

@@ -1,10 +1,11 @@
 -- A renderer's count of requests is the number of busy ticks, held at the largest count.
-use Rattle.std.proofs.Common.{◌≡◌, ◌+◌, ◌≤◌, min, List, [], ◌∷◌, arith}
+use Rattle.std.proofs.Common.{◌≡◌, ◌+◌, ◌≤◌, min, List, [], ◌∷◌, arith, Ok, Err, Result}
 use Rattle.renderers.specs.declared.heard.Heard.{Heard}
 use Rattle.calls.specs.declared.call.Call.{Call}
 use Rattle.calls.specs.declared.call.Call.TheVariants.{Release, Tick}
 use Rattle.calls.specs.declared.call.Reply.{Reply}
-use Rattle.calls.specs.declared.call.Reply.TheVariants.{Released, Ticked as ticked_reply, Refused}
+use Rattle.calls.specs.declared.call.Reply.TheVariants.{Released, Ticked as ticked_reply}
+use Rattle.calls.specs.declared.refusal.Refusal.{Refusal}
 use Rattle.calls.specs.declared.ticked.Ticked.{Ticked}
 use Rattle.calls.specs.declared.ticked.Ticked.TheVariants.{Idle, Ran as ran}
 use Rattle.scheduler.specs.Day.{tick_refusal}
@@ -17,17 +18,17 @@ use Rattle.scheduler.proofs.Refines.{ticks}
 tick_requests :
     (h : Heard) (t : Ticked)
     → h.requests ≤ 4294967295
-    → (heard_reply h (ticked_reply t)).requests ≡ min (h.requests + busy_reply (ticked_reply t)) 4294967295
+    → (heard_reply h (Ok (ticked_reply t))).requests ≡ min (h.requests + busy_reply (Ok (ticked_reply t))) 4294967295
 tick_requests h Idle low = omega arith
 tick_requests h (ran r) low = omega arith
 
 reply_requests :
-    (h : Heard) (reply : Reply)
+    (h : Heard) (reply : Result Reply Refusal)
     → h.requests ≤ 4294967295
     → (heard_reply h reply).requests ≡ min (h.requests + busy_reply reply) 4294967295
-reply_requests h (Released number) low = omega arith
-reply_requests h (ticked_reply t) low = tick_requests h t low
-reply_requests h (Refused refusal) low = omega arith
+reply_requests h (Ok (Released number)) low = omega arith
+reply_requests h (Ok (ticked_reply t)) low = tick_requests h t low
+reply_requests h (Err refusal) low = omega arith
 
 pub requests_are_busy_ticks :
     (h : Heard) (xs : List Exchange)
@@ -46,20 +47,20 @@ at_most_one (ran r) = omega arith
 
 -- A call raises the clock by no less than the busy ticks that it tells, and never past the last clock.
 clock_rises :
-    (s : Recorded) (call : Call) (reply : Reply)
+    (s : Recorded) (call : Call) (reply : Result Reply Refusal)
     → Right s call reply
     → s.day.clock ≤ 134217727
     → (s.day.clock + busy_reply reply ≤ (next s call reply).day.clock) × ((next s call reply).day.clock ≤ 134217727)
-clock_rises s (Release deadline budget) (Released number) right low = (omega arith, low)
-clock_rises s (Release deadline budget) (ticked_reply t) right low = absurd right
-clock_rises s (Release deadline budget) (Refused refusal) right low = (omega arith, low)
-clock_rises s Tick (Released number) right low = absurd right
-clock_rises s Tick (ticked_reply t) right low =
+clock_rises s (Release deadline budget) (Ok (Released number)) right low = (omega arith, low)
+clock_rises s (Release deadline budget) (Ok (ticked_reply t)) right low = absurd right
+clock_rises s (Release deadline budget) (Err refusal) right low = (omega arith, low)
+clock_rises s Tick (Ok (Released number)) right low = absurd right
+clock_rises s Tick (Ok (ticked_reply t)) right low =
     let one = at_most_one t in
     let later = clock_ticked s.day t right.1 in
     let early = ticks s.day (nothing_else_refused s.page 10 (tick_refusal s.day) right.0) in
     (omega arith, omega arith)
-clock_rises s Tick (Refused refusal) right low = (omega arith, low)
+clock_rises s Tick (Err refusal) right low = (omega arith, low)
 
 busy-by_clock : (s : Recorded) (xs : List Exchange) → AllRight s xs → s.day.clock ≤ 134217727 → s.day.clock + busy xs ≤ 134217727
 busy-by_clock s [] right low = omega arith

@@ -1,5 +1,5 @@
 -- After every call that was accepted a word is free for closing the day, where words are kept.
-use Rattle.std.proofs.Common.{◌≡◌, ℕ, ◌+◌, ◌<◌, ◌≤◌, Bool, true, false, cond, ◌&&◌, ltb, List, [], ◌∷◌, length, Some, None, Option, sym, refl, ap, ◌∙◌, arith, length-append, ltb-false}
+use Rattle.std.proofs.Common.{◌≡◌, ℕ, ◌+◌, ◌<◌, ◌≤◌, Bool, true, false, cond, ◌&&◌, ltb, List, [], ◌∷◌, length, Some, None, Ok, Err, Option, Result, sym, refl, ap, ◌∙◌, arith, length-append, ltb-false}
 use Rattle.std.proofs.lemmas.List.{length-map}
 use Rattle.words.specs.Words.{word}
 use Rattle.words.specs.declared.Kind.TheVariants as kind
@@ -8,7 +8,7 @@ use Rattle.recorder.proofs.Marks.{marked_all-keeps, marked_all-room}
 use Rattle.calls.specs.declared.call.Call.{Call}
 use Rattle.calls.specs.declared.call.Call.TheVariants.{Release, Tick}
 use Rattle.calls.specs.declared.call.Reply.{Reply}
-use Rattle.calls.specs.declared.call.Reply.TheVariants.{Released, Ticked as ticked_reply, Refused}
+use Rattle.calls.specs.declared.call.Reply.TheVariants.{Released, Ticked as ticked_reply}
 use Rattle.calls.specs.declared.refusal.Refusal.{Refusal}
 use Rattle.calls.specs.declared.refusal.Refusal.TheVariants.{Room}
 use Rattle.calls.specs.declared.ticked.Ticked.{Ticked}
@@ -60,16 +60,16 @@ few_in_tick (ran r) =
     let over = few_ending r.job r.ending in
     simp length-append (omega arith)
 
-one_call : (s : Recorded) (call : Call) (reply : Reply) → Right s call reply → Closable s.page → Closable (next s call reply).page
-one_call s (Release deadline budget) (Released number) right before =
+one_call : (s : Recorded) (call : Call) (reply : Result Reply Refusal) → Right s call reply → Closable s.page → Closable (next s call reply).page
+one_call s (Release deadline budget) (Ok (Released number)) right before =
     left_over s.page (release_marks (s.day.accepted + 1) deadline budget) 10 (omega arith) (granted_room s.page 10 (release_refusal s.day deadline budget) right.0)
-one_call s (Release deadline budget) (ticked_reply t) right before = before
-one_call s (Release deadline budget) (Refused refusal) right before = before
-one_call s Tick (Released number) right before = before
-one_call s Tick (ticked_reply t) right before =
+one_call s (Release deadline budget) (Ok (ticked_reply t)) right before = before
+one_call s (Release deadline budget) (Err refusal) right before = before
+one_call s Tick (Ok (Released number)) right before = before
+one_call s Tick (Ok (ticked_reply t)) right before =
     let few = few_in_tick t in
     left_over s.page (tick_marks t) 10 (omega arith) (granted_room s.page 10 (tick_refusal s.day) right.0)
-one_call s Tick (Refused refusal) right before = before
+one_call s Tick (Err refusal) right before = before
 
 -- So closing always fits, after any list of calls.
 pub closable_after : (s : Recorded) (xs : List Exchange) → AllRight s xs → Closable s.page → Closable (played s xs).page

@@ -1,26 +1,24 @@
 -- What the lender of the words gets back when the evening is over.
-use Rattle.std.proofs.Common.{◌≡◌, ℕ, ◌-◌, List, ◌++◌, length, drop, Option, sym, refl, ap, ◌∙◌, subst, arith}
+use Rattle.std.proofs.Common.{◌≡◌, ℕ, ◌-◌, List, ◌++◌, length, drop, Result, sym, refl, ap, ◌∙◌, subst, arith}
 use base.Fml.{GName}
 use Rattle.recorder.specs.Page.{Page, Mark, blank, all_words, marked_all}
 use Rattle.recorder.proofs.Marks.{named, marked_all-append, marked_all-named, marked_all-spare, marked_all-total}
 use Rattle.renderers.specs.declared.heard.Heard.{Heard}
 use Rattle.calls.specs.declared.call.Call.{Call}
 use Rattle.calls.specs.declared.call.Reply.{Reply}
-use Rattle.playing.specs.declared.play.PlayError.{PlayError}
-use Rattle.playing.specs.declared.play.PlayError.TheVariants.{Refused as refused, NoMemory}
 use Rattle.calls.specs.declared.refusal.Refusal.{Refusal}
 use Rattle.scheduler.specs.Day.{DayState}
 use Rattle.scheduler.specs.Marks.{opening_marks, closing_marks}
-use Rattle.playing.specs.Exchanges.{exchanges, opened_on, Closable, NotPlayed, Plays}
+use Rattle.playing.specs.Exchanges.{exchanges, opened_on, Closable, Plays}
 use Rattle.playing.specs.Traces.{all_marks, trace_of, RecordedEvening}
 use Rattle.playing.proofs.Written.{marks-of_calls, trace_logged}
 
 -- All that a day on a blank page marked when it was closed at a clock.
-abbrev pub evening_marks : List ℕ → List Call → List Reply → ℕ → List Mark
+abbrev pub evening_marks : List ℕ → List Call → List (Result Reply Refusal) → ℕ → List Mark
 evening_marks rates calls replies clock = opening_marks rates ++ (all_marks (exchanges calls replies) ++ closing_marks clock)
 
 pub evening-marked :
-    (rates : List ℕ) (calls : List Call) (replies : List Reply) (page page' page'' : Page) (h h' : Heard) (day : DayState) (clock : ℕ)
+    (rates : List ℕ) (calls : List Call) (replies : List (Result Reply Refusal)) (page page' page'' : Page) (h h' : Heard) (day : DayState) (clock : ℕ)
     → Plays rates calls replies page page' h h' day
     → clock ≡ day.clock
     → page'' ≡ marked_all page' (closing_marks day.clock)
@@ -36,7 +34,7 @@ evening-marked rates calls replies page page' page'' h h' day clock plays told e
 
 -- On lent words these marks are the trace, with the other words behind it.
 pub evening-recorded :
-    (rates : List ℕ) (calls : List Call) (replies : List Reply) (words words' : List ℕ) (lender : GName) (begun page' : Page) (h h' : Heard) (day : DayState) (clock written : ℕ)
+    (rates : List ℕ) (calls : List Call) (replies : List (Result Reply Refusal)) (words words' : List ℕ) (lender : GName) (begun page' : Page) (h h' : Heard) (day : DayState) (clock written : ℕ)
     → begun ≡ named lender (blank words)
     → Plays rates calls replies begun page' h h' day
     → clock ≡ day.clock
@@ -66,13 +64,3 @@ evening-recorded rates calls replies words words' lender begun page' h h' day cl
       fits = omega (arith, counted, marked_all-total (blank words) marks);
       length_told = counted ∙ ap length logged;
     }
-
--- Where no call was made, all that was handed in is as it was.
-pub not-played_either :
-    {A B : Type 0} (cause cause' : Option Refusal) (e : PlayError)
-    → cause ≡ cause'
-    → (A → B)
-    → NotPlayed cause e A
-    → NotPlayed cause' e B
-not-played_either cause cause' (refused refusal) same kept not-played = record { because = sym same ∙ not-played.because; unchanged = kept not-played.unchanged }
-not-played_either cause cause' NoMemory same kept not-played = kept not-played

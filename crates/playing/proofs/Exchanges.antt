@@ -1,10 +1,11 @@
 -- A list of calls with right answers, as the events of a day: each accepted call was possible where it was made, and what
 -- the answers told is what the events told.
-use Rattle.std.proofs.Common.{◌≡◌, ℕ, ◌+◌, List, [], ◌∷◌, map, Some, None, Option, sym, refl, ap, ◌∙◌, subst}
+use Rattle.std.proofs.Common.{◌≡◌, ℕ, ◌+◌, List, [], ◌∷◌, map, Some, None, Ok, Err, Option, Result, sym, refl, ap, ◌∙◌, subst}
 use Rattle.calls.specs.declared.call.Call.{Call}
 use Rattle.calls.specs.declared.call.Call.TheVariants.{Release, Tick}
 use Rattle.calls.specs.declared.call.Reply.{Reply}
-use Rattle.calls.specs.declared.call.Reply.TheVariants.{Released, Ticked as ticked_reply, Refused}
+use Rattle.calls.specs.declared.call.Reply.TheVariants.{Released, Ticked as ticked_reply}
+use Rattle.calls.specs.declared.refusal.Refusal.{Refusal}
 use Rattle.scheduler.specs.declared.job.Job.{Job}
 use Rattle.calls.specs.declared.ticked.Ran.{Ran}
 use Rattle.calls.specs.declared.ticked.Ticked.{Ticked}
@@ -20,13 +21,13 @@ use Rattle.scheduler.proofs.Refines.{slow_call, ends_past, bounds_past, acceptab
 use Rattle.scheduler.proofs.DayGood.{ends_all, bounds_all}
 
 -- The events with that of an answered call in front, if it was accepted.
-abbrev pub with_event : Call → Reply → List Event → List Event
-with_event (Release deadline budget) (Released number) es = arrived deadline budget ∷ es
-with_event (Release deadline budget) (ticked_reply t) es = es
-with_event (Release deadline budget) (Refused refusal) es = es
-with_event Tick (Released number) es = es
-with_event Tick (ticked_reply t) es = passed t ∷ es
-with_event Tick (Refused refusal) es = es
+abbrev pub with_event : Call → Result Reply Refusal → List Event → List Event
+with_event (Release deadline budget) (Ok (Released number)) es = arrived deadline budget ∷ es
+with_event (Release deadline budget) (Ok (ticked_reply t)) es = es
+with_event (Release deadline budget) (Err refusal) es = es
+with_event Tick (Ok (Released number)) es = es
+with_event Tick (Ok (ticked_reply t)) es = passed t ∷ es
+with_event Tick (Err refusal) es = es
 
 abbrev pub events_of : List Exchange → List Event
 events_of [] = []
@@ -34,16 +35,16 @@ events_of (x ∷ xs) = with_event x.0 x.1 (events_of xs)
 
 -- Each accepted call was possible.
 possible_first :
-    (s : Recorded) (call : Call) (reply : Reply) (es : List Event)
+    (s : Recorded) (call : Call) (reply : Result Reply Refusal) (es : List Event)
     → Right s call reply
     → AllPossible (next s call reply).day es
     → AllPossible s.day (with_event call reply es)
-possible_first s (Release deadline budget) (Released number) es r p = (nothing_else_refused s.page 10 _ r.0, p)
-possible_first s (Release deadline budget) (ticked_reply t) es r p = absurd r
-possible_first s (Release deadline budget) (Refused refusal) es r p = p
-possible_first s Tick (Released number) es r p = absurd r
-possible_first s Tick (ticked_reply t) es r p = ((nothing_else_refused s.page 10 _ r.0, r.1), p)
-possible_first s Tick (Refused refusal) es r p = p
+possible_first s (Release deadline budget) (Ok (Released number)) es r p = (nothing_else_refused s.page 10 _ r.0, p)
+possible_first s (Release deadline budget) (Ok (ticked_reply t)) es r p = absurd r
+possible_first s (Release deadline budget) (Err refusal) es r p = p
+possible_first s Tick (Ok (Released number)) es r p = absurd r
+possible_first s Tick (Ok (ticked_reply t)) es r p = ((nothing_else_refused s.page 10 _ r.0, r.1), p)
+possible_first s Tick (Err refusal) es r p = p
 
 pub right_possible : (s : Recorded) (xs : List Exchange) → AllRight s xs → AllPossible s.day (events_of xs)
 right_possible s [] r = tt
@@ -52,14 +53,14 @@ right_possible s (x ∷ xs) r =
 
 -- They lead to the day that was played.
 played-first :
-    (s : Recorded) (call : Call) (reply : Reply) (es : List Event)
+    (s : Recorded) (call : Call) (reply : Result Reply Refusal) (es : List Event)
     → after_all (next s call reply).day es ≡ after_all s.day (with_event call reply es)
-played-first s (Release deadline budget) (Released number) es = refl
-played-first s (Release deadline budget) (ticked_reply t) es = refl
-played-first s (Release deadline budget) (Refused refusal) es = refl
-played-first s Tick (Released number) es = refl
-played-first s Tick (ticked_reply t) es = refl
-played-first s Tick (Refused refusal) es = refl
+played-first s (Release deadline budget) (Ok (Released number)) es = refl
+played-first s (Release deadline budget) (Ok (ticked_reply t)) es = refl
+played-first s (Release deadline budget) (Err refusal) es = refl
+played-first s Tick (Ok (Released number)) es = refl
+played-first s Tick (Ok (ticked_reply t)) es = refl
+played-first s Tick (Err refusal) es = refl
 
 pub played-day : (s : Recorded) (xs : List Exchange) → (played s xs).day ≡ after_all s.day (events_of xs)
 played-day s [] = refl
@@ -71,14 +72,14 @@ accepted-tick Idle = refl
 accepted-tick (ran r) = refl
 
 accepted-first :
-    (call : Call) (reply : Reply) (es : List Event)
+    (call : Call) (reply : Result Reply Refusal) (es : List Event)
     → and_then (accepted_call call reply) (map accepted (map slow_call es)) ≡ map accepted (map slow_call (with_event call reply es))
-accepted-first (Release deadline budget) (Released number) es = refl
-accepted-first (Release deadline budget) (ticked_reply t) es = refl
-accepted-first (Release deadline budget) (Refused refusal) es = refl
-accepted-first Tick (Released number) es = refl
-accepted-first Tick (ticked_reply t) es = ap (λ c. c ∷ map accepted (map slow_call es)) (accepted-tick t)
-accepted-first Tick (Refused refusal) es = refl
+accepted-first (Release deadline budget) (Ok (Released number)) es = refl
+accepted-first (Release deadline budget) (Ok (ticked_reply t)) es = refl
+accepted-first (Release deadline budget) (Err refusal) es = refl
+accepted-first Tick (Ok (Released number)) es = refl
+accepted-first Tick (Ok (ticked_reply t)) es = ap (λ c. c ∷ map accepted (map slow_call es)) (accepted-tick t)
+accepted-first Tick (Err refusal) es = refl
 
 pub accepted-events : (xs : List Exchange) → accepted_calls xs ≡ map accepted (map slow_call (events_of xs))
 accepted-events [] = refl
@@ -121,21 +122,21 @@ or_assoc None y z = refl
 or_assoc (Some k) y z = refl
 
 ends_first :
-    (n : ℕ) (s : Recorded) (call : Call) (reply : Reply) (es : List Event) (later : ℕ → Option ℕ)
+    (n : ℕ) (s : Recorded) (call : Call) (reply : Result Reply Refusal) (es : List Event) (later : ℕ → Option ℕ)
     → ((ends : ℕ → Option ℕ) → ends_all ends (next s call reply).day es n ≡ or_else (ends n) (later (next s call reply).day.clock))
     → Right s call reply
     → (ends : ℕ → Option ℕ)
     → ends_all ends s.day (with_event call reply es) n
     ≡ or_else (ends n) (or_else (end_told n s.day.clock reply) (later (clock_past s.day.clock reply)))
-ends_first n s (Release deadline budget) (Released number) es later h r ends = h (ends_past ends s.day.clock (arrived deadline budget))
-ends_first n s (Release deadline budget) (ticked_reply t) es later h r ends = absurd r
-ends_first n s (Release deadline budget) (Refused refusal) es later h r ends = h ends
-ends_first n s Tick (Released number) es later h r ends = absurd r
-ends_first n s Tick (ticked_reply t) es later h r ends =
+ends_first n s (Release deadline budget) (Ok (Released number)) es later h r ends = h (ends_past ends s.day.clock (arrived deadline budget))
+ends_first n s (Release deadline budget) (Ok (ticked_reply t)) es later h r ends = absurd r
+ends_first n s (Release deadline budget) (Err refusal) es later h r ends = h ends
+ends_first n s Tick (Ok (Released number)) es later h r ends = absurd r
+ends_first n s Tick (Ok (ticked_reply t)) es later h r ends =
     h (ends_past ends s.day.clock (passed t))
     ∙ ap (λ clock. or_else (ends_past ends s.day.clock (passed t) n) (later clock)) (clock_ticked s.day t r.1)
-    ∙ or_assoc (ends n) (end_told n s.day.clock (ticked_reply t)) (later (s.day.clock + 1))
-ends_first n s Tick (Refused refusal) es later h r ends = h ends
+    ∙ or_assoc (ends n) (end_told n s.day.clock (Ok (ticked_reply t))) (later (s.day.clock + 1))
+ends_first n s Tick (Err refusal) es later h r ends = h ends
 
 pub ends_told :
     (n : ℕ) (s : Recorded) (xs : List Exchange)
@@ -156,20 +157,20 @@ ends_told n s (x ∷ xs) r ends =
     ends
 
 bounds_first :
-    (n : ℕ) (s : Recorded) (call : Call) (reply : Reply) (es : List Event) (later : Option ℕ)
+    (n : ℕ) (s : Recorded) (call : Call) (reply : Result Reply Refusal) (es : List Event) (later : Option ℕ)
     → ((bounds : ℕ → Option ℕ) → bounds_all bounds es n ≡ or_else later (bounds n))
     → Right s call reply
     → (bounds : ℕ → Option ℕ)
     → bounds_all bounds (with_event call reply es) n ≡ or_else (or_else later (bound_told n reply)) (bounds n)
-bounds_first n s (Release deadline budget) (Released number) es later h r bounds =
+bounds_first n s (Release deadline budget) (Ok (Released number)) es later h r bounds =
     h bounds ∙ sym (or_assoc later None (bounds n))
-bounds_first n s (Release deadline budget) (ticked_reply t) es later h r bounds = absurd r
-bounds_first n s (Release deadline budget) (Refused refusal) es later h r bounds =
+bounds_first n s (Release deadline budget) (Ok (ticked_reply t)) es later h r bounds = absurd r
+bounds_first n s (Release deadline budget) (Err refusal) es later h r bounds =
     h bounds ∙ sym (or_assoc later None (bounds n))
-bounds_first n s Tick (Released number) es later h r bounds = absurd r
-bounds_first n s Tick (ticked_reply t) es later h r bounds =
+bounds_first n s Tick (Ok (Released number)) es later h r bounds = absurd r
+bounds_first n s Tick (Ok (ticked_reply t)) es later h r bounds =
     h (bounds_past bounds (passed t)) ∙ sym (or_assoc later (bound_set n t) (bounds n))
-bounds_first n s Tick (Refused refusal) es later h r bounds = h bounds ∙ sym (or_assoc later None (bounds n))
+bounds_first n s Tick (Err refusal) es later h r bounds = h bounds ∙ sym (or_assoc later None (bounds n))
 
 pub bounds_told :
     (n : ℕ) (s : Recorded) (xs : List Exchange)

@@ -1,5 +1,5 @@
 -- A list of calls with their answers, one more at the end.
-use Rattle.std.proofs.Common.{◌≡◌, ℕ, ◌+◌, ◌<◌, List, [], ◌∷◌, ◌++◌, length, get_or, take, None, Option, sym, refl, ap, ◌∙◌, subst, arith, length-take}
+use Rattle.std.proofs.Common.{◌≡◌, ℕ, ◌+◌, ◌<◌, List, [], ◌∷◌, ◌++◌, length, get_or, take, None, Ok, Err, Option, Result, sym, refl, ap, ◌∙◌, subst, arith, length-take}
 use Rattle.std.proofs.lemmas.List.{take_more}
 use Rattle.rates.specs.Lawful.{Lawful}
 use Rattle.recorder.specs.Page.{Page, marked_all}
@@ -8,7 +8,8 @@ use Rattle.renderers.specs.declared.heard.Heard.{Heard}
 use Rattle.calls.specs.declared.call.Call.{Call}
 use Rattle.calls.specs.declared.call.Call.TheVariants.{Release, Tick}
 use Rattle.calls.specs.declared.call.Reply.{Reply}
-use Rattle.calls.specs.declared.call.Reply.TheVariants.{Released, Ticked as ticked_reply, Refused}
+use Rattle.calls.specs.declared.call.Reply.TheVariants.{Released, Ticked as ticked_reply}
+use Rattle.calls.specs.declared.refusal.Refusal.{Refusal}
 use Rattle.scheduler.specs.Day.{DayState, opened}
 use Rattle.scheduler.specs.Marks.{opening_marks}
 use Rattle.scheduler.specs.Law.{Exchange, Safe}
@@ -32,13 +33,13 @@ heard-push h [] x = refl
 heard-push h (y ∷ xs) x = heard-push (heard_reply h y.1) xs x
 
 -- The day after a call and its answer, with the trace or without.
-next-day : (s : Recorded) (call : Call) (reply : Reply) → (next s call reply).day ≡ next_day s.day call reply
-next-day s (Release deadline budget) (Released number) = refl
-next-day s (Release deadline budget) (ticked_reply t) = refl
-next-day s (Release deadline budget) (Refused refusal) = refl
-next-day s Tick (Released number) = refl
-next-day s Tick (ticked_reply t) = refl
-next-day s Tick (Refused refusal) = refl
+next-day : (s : Recorded) (call : Call) (reply : Result Reply Refusal) → (next s call reply).day ≡ next_day s.day call reply
+next-day s (Release deadline budget) (Ok (Released number)) = refl
+next-day s (Release deadline budget) (Ok (ticked_reply t)) = refl
+next-day s (Release deadline budget) (Err refusal) = refl
+next-day s Tick (Ok (Released number)) = refl
+next-day s Tick (Ok (ticked_reply t)) = refl
+next-day s Tick (Err refusal) = refl
 
 asked_push :
     {P : Type 0} (tells : P → List ℕ → ℕ → ℕ → Option ℕ → P → Type 0) (s : Recorded) (xs : List Exchange) (x : Exchange) (p p' p'' : P)
@@ -60,7 +61,7 @@ run-push tells [] x r r' r'' same one = (r'', subst (λ q. RunIn tells x.1 q r''
 run-push tells (y ∷ xs) x r r' r'' (q, first, rest) one = (q, first, run-push tells xs x q r' r'' rest one)
 
 -- As many calls as answers, and one more of each.
-exchanges-push : (calls : List Call) (replies : List Reply) (call : Call) (reply : Reply) → length calls ≡ length replies → exchanges (calls ++ (call ∷ [])) (replies ++ (reply ∷ [])) ≡ exchanges calls replies ++ ((call, reply) ∷ [])
+exchanges-push : (calls : List Call) (replies : List (Result Reply Refusal)) (call : Call) (reply : Result Reply Refusal) → length calls ≡ length replies → exchanges (calls ++ (call ∷ [])) (replies ++ (reply ∷ [])) ≡ exchanges calls replies ++ ((call, reply) ∷ [])
 exchanges-push [] [] call reply e = refl
 exchanges-push [] (q ∷ replies) call reply e = absurd (omega arith)
 exchanges-push (c ∷ calls) [] call reply e = absurd (omega arith)
@@ -69,7 +70,7 @@ exchanges-push (c ∷ calls) (q ∷ replies) call reply e =
     ap (λ xs. (c, q) ∷ xs) (exchanges-push calls replies call reply shorter)
 
 -- One call more is answered rightly.
-pub answered_more : (s t u : Recorded) (h h' h'' : Heard) (xs : List Exchange) (call : Call) (reply : Reply) → SoFar s t h h' xs → Answered t u h' h'' call reply → SoFar s u h h'' (xs ++ ((call, reply) ∷ []))
+pub answered_more : (s t u : Recorded) (h h' h'' : Heard) (xs : List Exchange) (call : Call) (reply : Result Reply Refusal) → SoFar s t h h' xs → Answered t u h' h'' call reply → SoFar s u h h'' (xs ++ ((call, reply) ∷ []))
 answered_more s t u h h' h'' xs call reply far one =
     record {
       right = all_right_push s xs (call, reply) far.right (subst (λ r. Right r call reply) far.after one.right);
@@ -86,7 +87,7 @@ pub record GoneOn {P R : Type 0} (asks : P → List ℕ → ℕ → ℕ → Opti
 -- One call more is answered.
 pub gone_on_more :
     {P R : Type 0} (asks : P → List ℕ → ℕ → ℕ → Option ℕ → P → Type 0) (runs : R → ℕ → ℕ → Answer → R → Type 0)
-    (s t u : Recorded) (h h' h'' : Heard) (p p' p'' : P) (r r' r'' : R) (xs : List Exchange) (call : Call) (reply : Reply)
+    (s t u : Recorded) (h h' h'' : Heard) (p p' p'' : P) (r r' r'' : R) (xs : List Exchange) (call : Call) (reply : Result Reply Refusal)
     → GoneOn asks runs s t h h' p p' r r' xs
     → Answered t u h' h'' call reply
     → AskedIn asks t.day reply p' p''
@@ -102,7 +103,7 @@ gone_on_more asks runs s t u h h' h'' p p' p'' r r' r'' xs call reply gone one a
     }
 
 -- The calls up to a place and one more, where each has an answer.
-pub exchanges-more : (calls : List Call) (replies : List Reply) (place : ℕ) (call : Call) (reply : Reply) → place < length calls → length replies ≡ place → exchanges (take (place + 1) calls) (replies ++ (reply ∷ [])) ≡ exchanges (take place calls) replies ++ ((get_or calls place call, reply) ∷ [])
+pub exchanges-more : (calls : List Call) (replies : List (Result Reply Refusal)) (place : ℕ) (call : Call) (reply : Result Reply Refusal) → place < length calls → length replies ≡ place → exchanges (take (place + 1) calls) (replies ++ (reply ∷ [])) ≡ exchanges (take place calls) replies ++ ((get_or calls place call, reply) ∷ [])
 exchanges-more calls replies place call reply within answered =
     let short : length (take place calls) ≡ length replies = length-take place calls ∙ omega arith in
     ap (λ front. exchanges front (replies ++ (reply ∷ []))) (take_more calls place call within)
@@ -110,7 +111,7 @@ exchanges-more calls replies place call reply within answered =
 
 -- The whole list was played on a day that was just opened: the law holds of it.
 pub played-all :
-    (rates : List ℕ) (calls : List Call) (replies : List Reply) (page page₁ page' : Page) (h h' : Heard) (start day : DayState) →
+    (rates : List ℕ) (calls : List Call) (replies : List (Result Reply Refusal)) (page page₁ page' : Page) (h h' : Heard) (start day : DayState) →
     Lawful rates →
     opening_refusal page rates ≡ None →
     start ≡ opened rates →

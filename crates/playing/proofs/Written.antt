@@ -1,5 +1,5 @@
 -- What a list of calls writes, where words are kept: the marks of its answers, all of them.
-use Rattle.std.proofs.Common.{◌≡◌, ℕ, ◌+◌, ◌≤◌, true, List, [], ◌∷◌, ◌++◌, length, None, sym, refl, ap, ◌∙◌, arith}
+use Rattle.std.proofs.Common.{◌≡◌, ℕ, ◌+◌, ◌≤◌, true, List, [], ◌∷◌, ◌++◌, length, None, Ok, Err, Result, sym, refl, ap, ◌∙◌, arith}
 use Rattle.std.proofs.lemmas.List.{length-map}
 use Rattle.words.specs.Words.{word}
 use Rattle.words.specs.declared.Kind.TheVariants as kind
@@ -8,7 +8,8 @@ use Rattle.recorder.proofs.Marks.{marked_all-keeps, marked_all-log, marked_all-a
 use Rattle.calls.specs.declared.call.Call.{Call}
 use Rattle.calls.specs.declared.call.Call.TheVariants.{Release, Tick}
 use Rattle.calls.specs.declared.call.Reply.{Reply}
-use Rattle.calls.specs.declared.call.Reply.TheVariants.{Released, Ticked as ticked_reply, Refused}
+use Rattle.calls.specs.declared.call.Reply.TheVariants.{Released, Ticked as ticked_reply}
+use Rattle.calls.specs.declared.refusal.Refusal.{Refusal}
 use Rattle.scheduler.specs.Day.{release_refusal, tick_refusal}
 use Rattle.scheduler.specs.Marks.{call_marks, opening_marks, closing_marks, release_marks}
 use Rattle.scheduler.specs.Outcomes.{opening_refusal}
@@ -19,13 +20,13 @@ use Rattle.playing.specs.Traces.{all_marks, trace_of}
 use Rattle.playing.proofs.ClosingRoom.{granted_room, few_in_tick}
 
 -- The page after a call that was answered rightly is marked with what the answer adds.
-next-page : (s : Recorded) (call : Call) (reply : Reply) → Right s call reply → (next s call reply).page ≡ marked_all s.page (call_marks call reply)
-next-page s (Release deadline budget) (Released number) right = ap (λ n. marked_all s.page (release_marks n deadline budget)) (sym right.1)
-next-page s (Release deadline budget) (ticked_reply t) right = absurd right
-next-page s (Release deadline budget) (Refused refusal) right = refl
-next-page s Tick (Released number) right = absurd right
-next-page s Tick (ticked_reply t) right = refl
-next-page s Tick (Refused refusal) right = refl
+next-page : (s : Recorded) (call : Call) (reply : Result Reply Refusal) → Right s call reply → (next s call reply).page ≡ marked_all s.page (call_marks call reply)
+next-page s (Release deadline budget) (Ok (Released number)) right = ap (λ n. marked_all s.page (release_marks n deadline budget)) (sym right.1)
+next-page s (Release deadline budget) (Ok (ticked_reply t)) right = absurd right
+next-page s (Release deadline budget) (Err refusal) right = refl
+next-page s Tick (Ok (Released number)) right = absurd right
+next-page s Tick (Ok (ticked_reply t)) right = refl
+next-page s Tick (Err refusal) right = refl
 
 -- The page after some calls is marked with what their answers add.
 pub marks-of_calls : (s : Recorded) (xs : List Exchange) → AllRight s xs → (played s xs).page ≡ marked_all s.page (all_marks xs)
@@ -36,18 +37,18 @@ marks-of_calls s (x ∷ xs) right =
     ∙ sym (marked_all-append s.page (call_marks x.0 x.1) (all_marks xs))
 
 -- What a call adds fits the words that it wanted.
-call_fits : (s : Recorded) (call : Call) (reply : Reply) → Right s call reply → s.page.keeps ≡ true → length (call_marks call reply) ≤ room s.page
-call_fits s (Release deadline budget) (Released number) right keeps =
+call_fits : (s : Recorded) (call : Call) (reply : Result Reply Refusal) → Right s call reply → s.page.keeps ≡ true → length (call_marks call reply) ≤ room s.page
+call_fits s (Release deadline budget) (Ok (Released number)) right keeps =
     let free = granted_room s.page 10 (release_refusal s.day deadline budget) right.0 keeps in
     omega arith
-call_fits s (Release deadline budget) (ticked_reply t) right keeps = omega arith
-call_fits s (Release deadline budget) (Refused refusal) right keeps = omega arith
-call_fits s Tick (Released number) right keeps = omega arith
-call_fits s Tick (ticked_reply t) right keeps =
+call_fits s (Release deadline budget) (Ok (ticked_reply t)) right keeps = omega arith
+call_fits s (Release deadline budget) (Err refusal) right keeps = omega arith
+call_fits s Tick (Ok (Released number)) right keeps = omega arith
+call_fits s Tick (Ok (ticked_reply t)) right keeps =
     let free = granted_room s.page 10 (tick_refusal s.day) right.0 keeps in
     let few = few_in_tick t in
     omega arith
-call_fits s Tick (Refused refusal) right keeps = omega arith
+call_fits s Tick (Err refusal) right keeps = omega arith
 
 -- So every mark is in the log.
 calls_logged : (s : Recorded) (xs : List Exchange) → AllRight s xs → s.page.keeps ≡ true → (played s xs).page.log ≡ logged_all s.page.log (all_marks xs)

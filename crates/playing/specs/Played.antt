@@ -1,5 +1,5 @@
 -- A list of calls made one after the other, each with its answer: what the day, the trace and the renderer come to.
-use Rattle.std.specs.Prelude.{◌≡◌, ℕ, ◌+◌, List, [], ◌∷◌, ◌++◌, Some, None, Option}
+use Rattle.std.specs.Prelude.{◌≡◌, ℕ, ◌+◌, List, [], ◌∷◌, ◌++◌, Some, None, Ok, Err, Option, Result}
 use Rattle.recorder.specs.Page.{Page, marked_all}
 use Rattle.renderers.specs.declared.answer.Answer.{Answer}
 use Rattle.renderers.specs.declared.heard.Heard.{Heard}
@@ -7,7 +7,7 @@ use Rattle.scheduler.specs.Outcomes.{heard_tick}
 use Rattle.calls.specs.declared.call.Call.{Call}
 use Rattle.calls.specs.declared.call.Call.TheVariants.{Release, Tick}
 use Rattle.calls.specs.declared.call.Reply.{Reply}
-use Rattle.calls.specs.declared.call.Reply.TheVariants.{Released, Ticked as ticked_reply, Refused}
+use Rattle.calls.specs.declared.call.Reply.TheVariants.{Released, Ticked as ticked_reply}
 use Rattle.calls.specs.declared.refusal.Refusal.{Refusal}
 use Rattle.calls.specs.declared.ticked.Ticked.{Ticked}
 use Rattle.calls.specs.declared.ticked.Ticked.TheVariants.{Idle, Ran as ran}
@@ -30,32 +30,32 @@ refusal_for s (Release deadline budget) = or_no_room s.page 10 (release_refusal 
 refusal_for s Tick = or_no_room s.page 10 (tick_refusal s.day)
 
 -- The answer is right: the number of a job that is accepted, what a tick may tell, or the refusal.
-abbrev pub Right : Recorded → Call → Reply → Type 0
-Right s (Release deadline budget) (Released number) =
+abbrev pub Right : Recorded → Call → Result Reply Refusal → Type 0
+Right s (Release deadline budget) (Ok (Released number)) =
     (refusal_for s (Release deadline budget) ≡ None) × (number ≡ s.day.accepted + 1)
-Right s (Release deadline budget) (ticked_reply t) = ⊥
-Right s (Release deadline budget) (Refused refusal) = refusal_for s (Release deadline budget) ≡ Some refusal
-Right s Tick (Released number) = ⊥
-Right s Tick (ticked_reply t) = (refusal_for s Tick ≡ None) × Told s.day t
-Right s Tick (Refused refusal) = refusal_for s Tick ≡ Some refusal
+Right s (Release deadline budget) (Ok (ticked_reply t)) = ⊥
+Right s (Release deadline budget) (Err refusal) = refusal_for s (Release deadline budget) ≡ Some refusal
+Right s Tick (Ok (Released number)) = ⊥
+Right s Tick (Ok (ticked_reply t)) = (refusal_for s Tick ≡ None) × Told s.day t
+Right s Tick (Err refusal) = refusal_for s Tick ≡ Some refusal
 
 -- Day and trace after a call and its answer: a refused call leaves both as they were.
-abbrev pub next : Recorded → Call → Reply → Recorded
-next s (Release deadline budget) (Released number) = recorded s (arrived deadline budget)
-next s (Release deadline budget) (ticked_reply t) = s
-next s (Release deadline budget) (Refused refusal) = s
-next s Tick (Released number) = s
-next s Tick (ticked_reply t) = recorded s (passed t)
-next s Tick (Refused refusal) = s
+abbrev pub next : Recorded → Call → Result Reply Refusal → Recorded
+next s (Release deadline budget) (Ok (Released number)) = recorded s (arrived deadline budget)
+next s (Release deadline budget) (Ok (ticked_reply t)) = s
+next s (Release deadline budget) (Err refusal) = s
+next s Tick (Ok (Released number)) = s
+next s Tick (Ok (ticked_reply t)) = recorded s (passed t)
+next s Tick (Err refusal) = s
 
 -- The day of it, which is found without the trace.
-abbrev pub next_day : DayState → Call → Reply → DayState
-next_day day (Release deadline budget) (Released number) = released day deadline budget
-next_day day (Release deadline budget) (ticked_reply t) = day
-next_day day (Release deadline budget) (Refused refusal) = day
-next_day day Tick (Released number) = day
-next_day day Tick (ticked_reply t) = after_tick day t
-next_day day Tick (Refused refusal) = day
+abbrev pub next_day : DayState → Call → Result Reply Refusal → DayState
+next_day day (Release deadline budget) (Ok (Released number)) = released day deadline budget
+next_day day (Release deadline budget) (Ok (ticked_reply t)) = day
+next_day day (Release deadline budget) (Err refusal) = day
+next_day day Tick (Ok (Released number)) = day
+next_day day Tick (Ok (ticked_reply t)) = after_tick day t
+next_day day Tick (Err refusal) = day
 
 -- Every answer of the list is right where its call was made.
 abbrev pub AllRight : Recorded → List Exchange → Type 0
@@ -68,10 +68,10 @@ played s [] = s
 played s (x ∷ xs) = played (next s x.0 x.1) xs
 
 -- What a renderer has heard after an answered call: one request for each busy tick.
-abbrev pub heard_reply : Heard → Reply → Heard
-heard_reply h (Released number) = h
-heard_reply h (ticked_reply t) = heard_tick h t
-heard_reply h (Refused refusal) = h
+abbrev pub heard_reply : Heard → Result Reply Refusal → Heard
+heard_reply h (Ok (Released number)) = h
+heard_reply h (Ok (ticked_reply t)) = heard_tick h t
+heard_reply h (Err refusal) = h
 
 abbrev pub heard_all : Heard → List Exchange → Heard
 heard_all h [] = h
@@ -82,10 +82,10 @@ abbrev pub tick_answers : Ticked → List Answer
 tick_answers Idle = []
 tick_answers (ran r) = r.answer ∷ []
 
-abbrev pub reply_answers : Reply → List Answer
-reply_answers (Released number) = []
-reply_answers (ticked_reply t) = tick_answers t
-reply_answers (Refused refusal) = []
+abbrev pub reply_answers : Result Reply Refusal → List Answer
+reply_answers (Ok (Released number)) = []
+reply_answers (Ok (ticked_reply t)) = tick_answers t
+reply_answers (Err refusal) = []
 
 abbrev pub answers : List Exchange → List Answer
 answers [] = []
@@ -96,10 +96,10 @@ abbrev pub busy_tick : Ticked → ℕ
 busy_tick Idle = 0
 busy_tick (ran r) = 1
 
-abbrev pub busy_reply : Reply → ℕ
-busy_reply (Released number) = 0
-busy_reply (ticked_reply t) = busy_tick t
-busy_reply (Refused refusal) = 0
+abbrev pub busy_reply : Result Reply Refusal → ℕ
+busy_reply (Ok (Released number)) = 0
+busy_reply (Ok (ticked_reply t)) = busy_tick t
+busy_reply (Err refusal) = 0
 
 abbrev pub busy : List Exchange → ℕ
 busy [] = 0

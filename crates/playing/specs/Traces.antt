@@ -1,9 +1,10 @@
 -- The trace of a whole day, read off the calls and their answers.
-use Rattle.std.specs.Prelude.{◌≡◌, ℕ, ◌≤◌, true, List, [], ◌∷◌, ◌++◌, length, drop}
+use Rattle.std.specs.Prelude.{◌≡◌, ℕ, ◌≤◌, true, List, [], ◌∷◌, ◌++◌, length, drop, Result}
 use Rattle.recorder.specs.Page.{Page, Mark, logged_all}
 use Rattle.renderers.specs.declared.heard.Heard.{Heard}
 use Rattle.calls.specs.declared.call.Call.{Call}
 use Rattle.calls.specs.declared.call.Reply.{Reply}
+use Rattle.calls.specs.declared.refusal.Refusal.{Refusal}
 use Rattle.scheduler.specs.Day.{DayState}
 use Rattle.scheduler.specs.Marks.{call_marks, closing_marks, opening_marks}
 use Rattle.scheduler.specs.Law.{Exchange}
@@ -30,7 +31,7 @@ pub record Unwritten (words : List ℕ) (page : Page) : Type 0 where
 
 -- A list of calls was played on a fresh day, recorded in lent words from their beginning on, and the day was closed: the law
 -- holds of the list, and the words begin with the day's trace.
-pub record RecordedEvening (rates : List ℕ) (calls : List Call) (replies : List Reply) (words words' : List ℕ) (heard heard' : Heard) (clock written : ℕ) : Type 0 where
+pub record RecordedEvening (rates : List ℕ) (calls : List Call) (replies : List (Result Reply Refusal)) (words words' : List ℕ) (heard heard' : Heard) (clock written : ℕ) : Type 0 where
   pub page : Page
   pub page' : Page
   pub day : DayState

@@ -10,6 +10,7 @@ ghost use Rattle.playing.specs.Traces.{RecordedEvening};
 
 use crate::play::{PlayError, play};
 use calls::call::{Call, Reply};
+use calls::refusal::Refusal;
 use rates::{Policy, RateTable};
 use recorder::LentWords;
 use renderers::renderer::Renderer;
@@ -19,7 +20,7 @@ use std::alloc::Global;
 #[derive(Drop)]
 pub struct Evening {
     /// The answers to the calls, in their order.
-    pub replies: Vec<Reply>,
+    pub replies: Vec<Result<Reply, Refusal>>,
     /// The clock at which the day was closed.
     pub clock: u32,
     /// How many of the lent words are its trace.
@@ -43,18 +44,11 @@ pub fn play_evening<P: Policy, R: Renderer>(
     ensures renderer { elim result [ Ok done ↦ RunThrough R.Renderer.tells (exchanges calls.now done.replies.items) renderer.old renderer.new | Err e ↦ renderer.new ≡ renderer.old ] }
 {
     let mut trace = LentWords::over(words);
-    match play(heap, table, calls, policy, renderer, &mut trace) {
-        Ok(played) => {
-            let clock = played.day.close(&mut trace).clock();
-            Ok(Evening {
-                replies: played.replies,
-                clock,
-                written: trace.into_written(),
-            })
-        }
-        Err(error) => {
-            let _ = trace.into_written();
-            Err(error)
-        }
-    }
+    let played = play(heap, table, calls, policy, renderer, &mut trace)?;
+    let clock = played.day.close(&mut trace).clock();
+    Ok(Evening {
+        replies: played.replies,
+        clock,
+        written: trace.into_written(),
+    })
 }

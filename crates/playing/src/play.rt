@@ -2,7 +2,7 @@
 
 ghost use Rattle.std.specs.Prelude.{◌≡◌, Ok, Err};
 ghost use Rattle.rates.specs.Table.{rates_of};
-ghost use Rattle.calls.specs.declared.call.Reply.TheVariants.{Released, Ticked as ticked_reply, Refused as refused_reply};
+ghost use Rattle.playing.specs.declared.play.PlayError.TheVariants.{Refused, NoMemory};
 ghost use Rattle.scheduler.specs.Day.{opened};
 ghost use Rattle.playing.specs.Exchanges.{Answered, AskedIn, AskedThrough, NotPlayed, Plays, RunIn, RunThrough, exchanges};
 ghost use Rattle.scheduler.specs.Model.{model};
@@ -10,18 +10,17 @@ ghost use Rattle.scheduler.specs.Outcomes.{opening_refusal};
 
 use calls::call::{Call, Reply};
 use calls::refusal::Refusal;
-use calls::ticked::Ticked;
 use rates::{Policy, RateTable};
 use recorder::Trace;
 use renderers::renderer::Renderer;
 use scheduler::day::Day;
-use std::alloc::Global;
+use std::alloc::{AllocError, Global};
 
 /// A day after a list of calls, and their answers.
 #[derive(Drop)]
 pub struct Played {
     pub day: Day,
-    pub replies: Vec<Reply>,
+    pub replies: Vec<Result<Reply, Refusal>>,
 }
 
 /// Why a list of calls was not played to its end.
@@ -32,23 +31,19 @@ pub enum PlayError {
     NoMemory,
 }
 
-/// The answer to a release.
-fn release_reply(outcome: Result<u32, Refusal>) -> Reply
-    ensures { result ≡ elim outcome [ Ok number ↦ Released number | Err refusal ↦ refused_reply refusal ] }
-{
-    match outcome {
-        Ok(number) => Reply::Released(number),
-        Err(refusal) => Reply::Refused(refusal),
+impl From<AllocError> for PlayError {
+    ghost from_gives = { λ _ e. e ≡ NoMemory };
+
+    fn from(_error: AllocError) -> PlayError {
+        PlayError::NoMemory
     }
 }
 
-/// The answer to a tick.
-fn tick_reply(outcome: Result<Ticked, Refusal>) -> Reply
-    ensures { result ≡ elim outcome [ Ok t ↦ ticked_reply t | Err refusal ↦ refused_reply refusal ] }
-{
-    match outcome {
-        Ok(t) => Reply::Ticked(t),
-        Err(refusal) => Reply::Refused(refusal),
+impl From<Refusal> for PlayError {
+    ghost from_gives = { λ refusal e. e ≡ Refused refusal };
+
+    fn from(refusal: Refusal) -> PlayError {
+        PlayError::Refused(refusal)
     }
 }
 
@@ -59,17 +54,20 @@ fn answer<P: Policy, R: Renderer, T: Trace>(
     policy: &mut P,
     renderer: &mut R,
     trace: &mut T,
-) -> Reply
+) -> Result<Reply, Refusal>
     ensures day { Answered (record { day = model day.old; page = T.Trace.page trace.old }) (record { day = model day.new; page = T.Trace.page trace.new }) (R.Renderer.meaning renderer.old) (R.Renderer.meaning renderer.new) call result }
     ensures policy { AskedIn P.Policy.tells (model day.old) result policy.old policy.new }
     ensures renderer { RunIn R.Renderer.tells result renderer.old renderer.new }
 {
     match call {
-        Call::Release { deadline, budget } => release_reply(day.release(deadline, budget, trace)),
-        Call::Tick => tick_reply(day.tick(policy, renderer, trace)),
+        Call::Release { deadline, budget } => day
+            .release(deadline, budget, trace)
+            .map(Reply::Released),
+        Call::Tick => day.tick(policy, renderer, trace).map(Reply::Ticked),
     }
 }
 
+// Policy, renderer and trace are no struct: each has a clause of its own, and a tick borrows all three for one call only.
 /// Plays a list of calls, one after the other, on a fresh day, and gives that day and every call's answer.
 ///
 /// Of the whole list, over any rate table, policy and renderer, recorded or not, it promises the law: the day is never
@@ -86,18 +84,11 @@ pub fn play<P: Policy, R: Renderer, T: Trace>(
     ensures policy { elim result [ Ok done ↦ AskedThrough P.Policy.tells (opened (rates_of table)) (exchanges calls.now done.replies.items) policy.old policy.new | Err e ↦ policy.new ≡ policy.old ] }
     ensures renderer { elim result [ Ok done ↦ RunThrough R.Renderer.tells (exchanges calls.now done.replies.items) renderer.old renderer.new | Err e ↦ renderer.new ≡ renderer.old ] }
 {
-    let Ok(mut replies) = Vec::with_capacity(heap, calls.len()) else {
-        return Err(PlayError::NoMemory);
-    };
-    let mut day = match Day::open(table, trace) {
-        Ok(day) => day,
-        Err(refusal) => return Err(PlayError::Refused(refusal)),
-    };
+    let mut replies = Vec::with_capacity(heap, calls.len())?;
+    let mut day = Day::open(table, trace)?;
     for call in calls {
         let reply = answer(&mut day, *call, policy, renderer, trace);
-        if replies.push(reply).is_err() {
-            unreachable();
-        }
+        replies.push(reply).unwrap();
     }
     Ok(Played { day, replies })
 }

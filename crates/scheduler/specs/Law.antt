@@ -1,11 +1,12 @@
 -- The law over whole runs: a slowed day is never behind the full-speed reference run. It speaks of the list of calls and
 -- their answers alone.
-use Rattle.std.specs.Prelude.{◌≡◌, ℕ, ◌+◌, ◌-◌, ◌≤◌, Bool, false, cond, ◌&&◌, ◌↔◌, List, [], ◌∷◌, length, is_some, Some, None, Option, ◌==◌, slice_index_or}
+use Rattle.std.specs.Prelude.{◌≡◌, ℕ, ◌+◌, ◌-◌, ◌≤◌, Bool, false, cond, ◌&&◌, ◌↔◌, List, [], ◌∷◌, length, is_some, Some, None, Ok, Err, Option, Result, ◌==◌, slice_index_or}
 use Rattle.cues.specs.Demand.{Feasible, Overloaded}
 use Rattle.calls.specs.declared.call.Call.{Call}
 use Rattle.calls.specs.declared.call.Call.TheVariants.{Release, Tick}
 use Rattle.calls.specs.declared.call.Reply.{Reply}
-use Rattle.calls.specs.declared.call.Reply.TheVariants.{Released, Ticked as ticked_reply, Refused}
+use Rattle.calls.specs.declared.call.Reply.TheVariants.{Released, Ticked as ticked_reply}
+use Rattle.calls.specs.declared.refusal.Refusal.{Refusal}
 use Rattle.calls.specs.declared.ticked.Ticked.{Ticked}
 use Rattle.calls.specs.declared.ticked.Ticked.TheVariants.{Idle, Ran as ran}
 use Rattle.calls.specs.declared.ticked.Switch.{Switch}
@@ -14,16 +15,16 @@ use Rattle.runs.specs.Deadlines.{jobs, last_deadline, OverBy, Misses}
 
 -- A call and its answer.
 abbrev pub Exchange : Type 0
-Exchange = Call × Reply
+Exchange = Call × Result Reply Refusal
 
 -- The accepted call of an exchange, if it was accepted.
-abbrev pub accepted_call : Call → Reply → Option Accepted
-accepted_call (Release deadline budget) (Released number) = Some (released deadline budget)
-accepted_call (Release deadline budget) (ticked_reply t) = None
-accepted_call (Release deadline budget) (Refused refusal) = None
-accepted_call Tick (Released number) = None
-accepted_call Tick (ticked_reply t) = Some ticked
-accepted_call Tick (Refused refusal) = None
+abbrev pub accepted_call : Call → Result Reply Refusal → Option Accepted
+accepted_call (Release deadline budget) (Ok (Released number)) = Some (released deadline budget)
+accepted_call (Release deadline budget) (Ok (ticked_reply t)) = None
+accepted_call (Release deadline budget) (Err refusal) = None
+accepted_call Tick (Ok (Released number)) = None
+accepted_call Tick (Ok (ticked_reply t)) = Some ticked
+accepted_call Tick (Err refusal) = None
 
 abbrev pub and_then : Option Accepted → List Accepted → List Accepted
 and_then None rest = rest
@@ -57,21 +58,21 @@ or_else None old = old
 or_else (Some new) old = Some new
 
 -- The clock after an answered call.
-abbrev pub clock_past : ℕ → Reply → ℕ
-clock_past clock (Released number) = clock
-clock_past clock (ticked_reply t) = clock + 1
-clock_past clock (Refused refusal) = clock
+abbrev pub clock_past : ℕ → Result Reply Refusal → ℕ
+clock_past clock (Ok (Released number)) = clock
+clock_past clock (Ok (ticked_reply t)) = clock + 1
+clock_past clock (Err refusal) = clock
 
 -- The end that the answer tells of this job: the clock after the tick that told its ending.
-abbrev pub end_told : ℕ → ℕ → Reply → Option ℕ
-end_told n clock (Released number) = None
-end_told n clock (ticked_reply t) = cond (ends_job n t) (Some (clock + 1)) None
-end_told n clock (Refused refusal) = None
+abbrev pub end_told : ℕ → ℕ → Result Reply Refusal → Option ℕ
+end_told n clock (Ok (Released number)) = None
+end_told n clock (Ok (ticked_reply t)) = cond (ends_job n t) (Some (clock + 1)) None
+end_told n clock (Err refusal) = None
 
-abbrev pub bound_told : ℕ → Reply → Option ℕ
-bound_told n (Released number) = None
-bound_told n (ticked_reply t) = bound_set n t
-bound_told n (Refused refusal) = None
+abbrev pub bound_told : ℕ → Result Reply Refusal → Option ℕ
+bound_told n (Ok (Released number)) = None
+bound_told n (Ok (ticked_reply t)) = bound_set n t
+bound_told n (Err refusal) = None
 
 -- The end of a job in the day, from a clock on.
 abbrev pub end_from : ℕ → ℕ → List Exchange → Option ℕ

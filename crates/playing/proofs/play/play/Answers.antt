@@ -1,28 +1,17 @@
-use Rattle.std.proofs.Common.{◌≡◌, ℕ, ◌+◌, true, not, [], ◌∷◌, ◌++◌, length, take, is_ok, vec_items, vec_len, Vec, sym, refl, ap, ◌∙◌, subst, arith, take_all, rules}
+use Rattle.std.proofs.Common.{◌≡◌, ℕ, ◌+◌, [], ◌∷◌, ◌++◌, length, take, Result, vec_items, vec_len, Vec, sym, ap, ◌∙◌, arith, take_all, rules}
 use Rattle.std.specs.declared.alloc.Global.{Global}
 use Rattle.calls.specs.declared.call.Reply.{Reply}
+use Rattle.calls.specs.declared.refusal.Refusal.{Refusal}
 use Rattle.rates.proofs.Tables.{table_is_lawful}
 use Rattle.rates.specs.Table.{rates_of}
-use Rattle.playing.specs.Exchanges.{exchanges, AskedThrough}
+use Rattle.playing.specs.Exchanges.{exchanges}
 use Rattle.scheduler.specs.Model.{model}
 use Rattle.playing.proofs.Playing.{exchanges-more, gone_on_as, gone_on_more, played-all}
 use Rattle.playing.proofs.play.play.Goals as goal
 
 -- As many answers are held as calls were made, and there is room for all.
-answered : (replies : Vec Reply Global) (place : ℕ) → vec_len replies ≡ place → length (vec_items replies) ≡ place
+answered : (replies : Vec (Result Reply Refusal) Global) (place : ℕ) → vec_len replies ≡ place → length (vec_items replies) ≡ place
 answered replies place counted = sym replies.ok.0 ∙ counted
-
-pub loop-call-init : goal.loop-call-init
-loop-call-init g c =
-    let room = c.in-Ok.ensures in
-    (omega arith, room.len, room.capacity, record { so_far = record { right = tt; after = refl; asked = refl }; asked = refl; run = refl })
-
-pub unreachable-requires : goal.unreachable-requires
-unreachable-requires g c =
-    let kept : is_ok c.push.result ≡ true = c.push.ensures.succeeds (omega (arith, c.loop-call.invariant.1, c.loop-call.invariant.2, c.loop-call-test.true)) in
-    let lost : is_ok c.push.result ≡ not true = c.is_err.ensures.negation ∙ ap not c.if-is_err.true in
-    let never : ◌≡◌ {A = ℕ} 0 1 = cc in
-    omega arith
 
 pub loop-call-preserved : goal.loop-call-preserved
 loop-call-preserved g c =
@@ -41,20 +30,15 @@ loop-call-preserved g c =
       gone_on_as (sym (ap (exchanges (take (place + 1) calls)) pushed ∙ joined)) more,
     )
 
-pub returns : goal.returns
-returns g c =
+pub returns-clause-day : goal.returns-clause-day
+returns-clause-day g c =
     let calls = c.args.calls.now in
     let replies = c.loop-call.replies in
-    let opens = c.in-Ok-open.ensures in
+    let opens = c.in_ok-day.ensures in
     let all : take c.loop-call.call-index calls ≡ calls = take_all _ _ c.loop-call-test.false in
     let gone = gone_on_as (ap (λ front. exchanges front (vec_items replies)) all) c.loop-call.invariant.3 in
-    record {
-      day =
-          played-all
-          (rates_of c.args.table) calls (vec_items replies)
-          _ _ _ _ _ _ (model c.loop-call.day)
-          (table_is_lawful c.args.table) opens.granted opens.fresh opens.recorded (answered replies _ c.loop-call.invariant.1 ∙ omega arith)
-          gone.so_far;
-      policy = subst (λ day. AskedThrough g.P.Policy.tells day (exchanges calls (vec_items replies)) c.args.policy.now c.loop-call.policy) opens.fresh gone.asked;
-      renderer = gone.run;
-    }
+    played-all
+    (rates_of c.args.table) calls (vec_items replies)
+    _ _ _ _ _ _ (model c.loop-call.day)
+    (table_is_lawful c.args.table) opens.granted opens.fresh opens.recorded (answered replies _ c.loop-call.invariant.1 ∙ omega arith)
+    gone.so_far
