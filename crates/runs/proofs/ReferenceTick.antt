@@ -124,8 +124,7 @@ served-sum f after d rows s =
 pub tick_sum_le : (f : Row → ℕ) (k after : ℕ) (rows : List Row) → ((r : Row) → ContainsAt rows r → f (served after r) ≤ f r + k) → sum_by f (ticked_rows after rows) ≤ sum_by f rows + k
 tick_sum_le f k after rows grows =
     by_tick after rows (λ rs. sum_by f rs ≤ sum_by f rows + k)
-    (λ all_done. omega arith)
-    (λ d s first. omega (arith, served-sum f after d rows s, grows s.row (served-has d rows s)))
+    (λ all_done. omega arith) (λ d s first. omega (arith, served-sum f after d rows s, grows s.row (served-has d rows s)))
 
 -- What holds of every row after a tick: the rows that stay give it, and so does the row served.
 pub tick_all : (P Q : Row → Type 0) (after : ℕ) (rows : List Row) → ((r : Row) → P r → Q r) → ((r : Row) → ContainsAt rows r → 0 < r.left → P r → Q (served after r)) → AllByRecursion P rows → AllByRecursion Q (ticked_rows after rows)
@@ -143,5 +142,4 @@ tick_all P Q after rows stays changes all =
 pub tick_jobs : (after : ℕ) (rows : List Row) → map (λ r. r.job) (ticked_rows after rows) ≡ map (λ r. r.job) rows
 tick_jobs after rows =
     by_tick after rows (λ rs. map (λ r. r.job) rs ≡ map (λ r. r.job) rows)
-    (λ all_done. refl)
-    (λ d s first. map-set_same (λ r. r.job) rows s.place _ s.row (ap (λ r. r.job) (sym s.there)))
+    (λ all_done. refl) (λ d s first. map-set_same (λ r. r.job) rows s.place _ s.row (ap (λ r. r.job) (sym s.there)))

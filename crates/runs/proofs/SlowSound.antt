@@ -134,44 +134,26 @@ sound_state s v =
       one_runs = subst (λ n. n ≤ 1) (sym running-one) (one_at_most f);
       runs_first =
           λ somebody.
-          subst
-          (λ o. (m : SlowRow) × (o ≡ Some m) × (runs m.stage ≡ true))
-          (sym (first-is-leading started s.rows))
+          subst (λ o. (m : SlowRow) × (o ≡ Some m) × (runs m.stage ≡ true)) (sym (first-is-leading started s.rows))
           (stack_top t H 0 t (sorted s.rows) (subst (λ f. Stack t f H 0 t (sorted s.rows)) somebody v.stack));
       bounds_hold =
-          All-map
-          (λ r. BoundsHold t L r.stage)
-          slow_row
-          s.rows
+          All-map (λ r. BoundsHold t L r.stage) slow_row s.rows
           (all_sorted
-          (λ r. BoundsHold t L (slow_row r).stage)
-          s.rows
+          (λ r. BoundsHold t L (slow_row r).stage) s.rows
           (stack_bounds f t H 0 t L (sorted s.rows) (omega arith) within v.stack));
       resumable =
           λ nobody.
-          All-map
-          (λ r. Resumable t H r.stage)
-          slow_row
-          s.rows
+          All-map (λ r. Resumable t H r.stage) slow_row s.rows
           (all_sorted
-          (λ r. Resumable t H (slow_row r).stage)
-          s.rows
+          (λ r. Resumable t H (slow_row r).stage) s.rows
           (stack_resumable
-          t
-          H
-          H
-          0
-          t
-          (sorted s.rows)
-          (λ h. h)
+          t H H 0 t (sorted s.rows) (λ h. h)
           (subst (λ f. Stack t f H 0 t (sorted s.rows)) nobody v.stack)));
       handed_holds = omega (arith, within, stack_handed f t H 0 H D t (sorted s.rows) v.stack v.handed);
       chosen_well =
-          from_front
-          (first pending (map slow_row s.rows))
+          from_front (first pending (map slow_row s.rows))
           (subst
-          (FrontWell f t H D L)
-          (sym (first-is_front s.rows))
+          (FrontWell f t H D L) (sym (first-is_front s.rows))
           (stack_front f t H D t L (sorted s.rows) (omega arith) within v.stack v.handed));
     }
   where
@@ -231,13 +213,7 @@ chosen_has P test (r ∷ rs) h = go (test r.stage) (first test rs) refl (chosen_
     go false o e k = k
     go true None e k = (e, h.0)
     go true (Some q) e k =
-        cond_both
-        (leb r.job.deadline q.job.deadline)
-        r
-        q
-        (λ m. (test m.stage ≡ true) × P m)
-        (λ _. (e, h.0))
-        (λ _. k)
+        cond_both (leb r.job.deadline q.job.deadline) r q (λ m. (test m.stage ≡ true) × P m) (λ _. (e, h.0)) (λ _. k)
 
 pub first-has :
     (P : SlowRow → Type 0) (test : Stage → Bool) (rows : List SlowRow) (m : SlowRow)
