@@ -83,18 +83,15 @@ sooner-of_rest : (d e : ℕ) (o : Option ℕ) → (d ≡ e → ⊥) → sooner d
 sooner-of_rest d e None other is = absurd (other is)
 sooner-of_rest d e (Some f) other is = ap Some (omega arith)
 
-some_same : (d e : ℕ) → Some d ≡ Some e → d ≡ e
-some_same d e p = cc
-
 serve-finds : (after d : ℕ) (rows : List Row) → soonest rows ≡ Some d → Finds after d rows
-serve-finds after d [] is = absurd (false≢true (ap is_some is))
+serve-finds after d [] is = cc
 serve-finds after d (r ∷ rows) is = go (ltb 0 r.left) (eqb r.job.deadline d) refl refl (serve-finds after d rows)
   where
     go : (working due : Bool) → ltb 0 r.left ≡ working → eqb r.job.deadline d ≡ due → (soonest rows ≡ Some d → Finds after d rows) → Finds after d (r ∷ rows)
     go true true w e rest = finds_here after d r rows (and_from _ _ w e)
     go true false w e rest =
         finds_later after d r rows (and_right _ _ e)
-        (rest (sooner-of_rest r.job.deadline d (soonest rows) (eqb-false _ d e) (some_same _ d (sym (cond-true _ _ _ w) ∙ is))))
+        (rest (sooner-of_rest r.job.deadline d (soonest rows) (eqb-false _ d e) (cc (sym (cond-true _ _ _ w) ∙ is))))
     go false due w e rest = finds_later after d r rows (and_left _ _ w) (rest (sym (cond-false _ _ _ w) ∙ is))
 
 -- The rows after a tick.

@@ -38,6 +38,12 @@ Kept early f t H D Q m rs =
 
 -- One tick at clock t, with the handed bound H and deadline D.
 module _ (early : Bool) (t H D : ℕ) where
+  -- The stage of a job after its tick.
+  settled_cases : (bound : ℕ) (P : Stage → Type 0) → P (over (t + 1) bound) → (t + 1 < bound → P (running bound)) → P (settled early (t + 1) bound)
+  settled_cases bound P ended goes_on =
+      cond_both (early || leb bound (t + 1)) (over (t + 1) bound) (running bound) P (λ _. ended)
+      (λ v. goes_on (omega (arith, leb-false bound (t + 1) (or_parts early (leb bound (t + 1)) v).1)))
+
   -- If the reference run ends the chosen job in this tick, its bound has come, so it is over here too.
   settled-not_behind :
       (b : ℕ) (st : Stage) (l : ℕ) (e : Option ℕ)
@@ -46,9 +52,7 @@ module _ (early : Bool) (t H D : ℕ) where
       → b ≤ t + suc l
       → NotBehind st e
       → NotBehind (settled early (t + 1) b) (ended (t + 1) l e)
-  settled-not_behind b st zero e p a c n =
-      cond_both (early || leb b (t + 1)) (over (t + 1) b) (running b) (λ st. NotBehind st (Some (t + 1))) (λ v. omega arith)
-      (λ v. omega (arith, leb-false b (t + 1) (or_parts early (leb b (t + 1)) v).1))
+  settled-not_behind b st zero e p a c n = settled_cases b (λ st. NotBehind st (Some (t + 1))) (omega arith) (λ late. absurd (omega arith))
   settled-not_behind b st (suc l) e p a c n = not-behind_on st (settled early (t + 1) b) e p n
 
   over-not_behind :
@@ -87,12 +91,9 @@ module _ (early : Bool) (t H D : ℕ) where
       → (bound_on early f t H D m ≤ Q') ⊎ (d ≤ deadline_on early f t H D m)
   handed-above f None d Q Q' q a h = ⊎_elim (λ c. inl (omega arith)) inr h
   handed-above f (Some m) d Q Q' q a h =
-      cond_both (early || leb bound (t + 1)) (over (t + 1) bound) (running bound)
-      (λ st. (handed_on st bound H ≤ Q') ⊎ (d ≤ handed_on st m.job.deadline D)) (λ v. inr a)
-      (λ v. ⊎_elim (λ c. inl (omega arith)) inr h)
-    where
-      bound : ℕ
-      bound = bound_at f t H D m
+      settled_cases (bound_at f t H D m)
+      (λ st. (handed_on st (bound_at f t H D m) H ≤ Q') ⊎ (d ≤ handed_on st m.job.deadline D)) (inr a)
+      (λ late. ⊎_elim (λ c. inl (omega arith)) inr h)
 
   kept_idle : (f : Bool) (Q Q' : ℕ) → Q ≤ Q' → Stack t f H 0 Q [] → Handed H D Q [] → Kept early f t H D Q' None []
   kept_idle true Q Q' q s h = absurd s
@@ -114,17 +115,16 @@ module _ (early : Bool) (t H D : ℕ) where
       early f t H D Q' (Some (record { job = j; stage = st }))
       (row j l' e' (stage_at early f t H D (record { job = j; stage = st })) ∷ others (not (runs st)) t rs)
   kept_chosen f Q Q' j l l' e e' st rs p a q r m left n s h =
-      cond_both (early || leb bound (t + 1)) (over (t + 1) bound) (running bound)
+      settled_cases bound
       (λ st'.
       NotBehind st' e'
       → Stack (t + 1) (runs st') (handed_on st' bound H) 0 Q' (row j l' e' st' ∷ below)
       × Handed (handed_on st' bound H) (handed_on st' j.deadline D) Q' (row j l' e' st' ∷ below))
-      (λ v k. (
+      (λ k. (
         (omega (arith, fits.0, in_time), k, stands),
         (inr (omega arith), handed-all bound j.deadline (Q' + l') below in_time),
       ))
-      (λ v k.
-      let late : t + 1 < bound = omega (arith, leb-false bound (t + 1) (or_parts early (leb bound (t + 1)) v).1) in (
+      (λ late k. (
         (omega (arith, late, in_time, left bound late in_time), k, stands),
         (
           ⊎_elim (λ c. inl (omega arith)) (λ c. inr (before_due st j.deadline D c)) h.0,
