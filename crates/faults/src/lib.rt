@@ -10,6 +10,7 @@ ghost use Rattle.faults.specs.declared.ReadError.TheVariants.{Fault, NoMemory};
 
 mod report;
 
+use cues::load::Load;
 use cues::refusal::CueRefusal;
 use rates::TableRefusal;
 use std::alloc::{AllocError, AllocFailed};
@@ -28,32 +29,18 @@ pub enum CueFault {
 #[derive(Clone, Copy, PartialEq, Eq, Debug)]
 pub enum SheetFault {
     /// The word at this place, outside any cue, is wrong.
-    BadWord {
-        place: usize,
-        fault: WordFault,
-    },
+    BadWord { place: usize, fault: WordFault },
     /// The cue whose first word stands at this place is wrong.
-    BadCue {
-        place: usize,
-        fault: CueFault,
-    },
+    BadCue { place: usize, fault: CueFault },
     /// The rates make no table.
     BadTable(TableRefusal),
     /// The cue that begins at this place is one more than a sheet may have.
-    TooManyCues {
-        place: usize,
-    },
-    /// The interval from `start` to `end` demands more ticks than it has; `place` is that of the end word.
-    Overloaded {
-        demand: u32,
-        length: u32,
-        start: u32,
-        end: u32,
-        place: usize,
-    },
+    TooManyCues { place: usize },
+    /// The interval of this load demands more ticks than it has; `place` is that of the end word.
+    Overloaded { load: Load, place: usize },
 }
 
-/// Why no sheet came of the words: a fault of theirs, or want of memory.
+/// Why no sheet came of the words, or why one was not admitted: a fault of theirs, or want of memory.
 #[derive(Clone, Copy, PartialEq, Eq, Debug)]
 pub enum ReadError {
     Fault(SheetFault),
@@ -66,12 +53,7 @@ pub enum Returned {
     /// A word's place, a count of words, a table's or a cue's wrong value, or the most cues of a sheet.
     Value(usize),
     /// The interval that demands more ticks than it has.
-    Interval {
-        demand: u32,
-        length: u32,
-        start: u32,
-        end: u32,
-    },
+    Interval(Load),
 }
 
 /// Which part of a sheet a fault is about.

@@ -1,11 +1,13 @@
 //! How a fault is reported: by its layer, its number and its place, and what comes back with it.
 ghost use Rattle.std.specs.Prelude.{◌≡◌, Some};
-ghost use Rattle.faults.specs.Fault.{cue_number, cue_layer, cue_place, cue_value, fault_number, fault_layer, fault_place, fault_returns, fault_line, layer_name};
+ghost use Rattle.faults.specs.Fault.{cue_number, cue_layer, cue_place, cue_value, fault_number, fault_layer, fault_place, fault_returns, fault_of, fault_line, layer_name};
 
-use crate::{CueFault, Layer, Returned, SheetFault};
+use crate::{CueFault, Layer, ReadError, Returned, SheetFault};
 use cues::list::CueList;
+use std::alloc::AllocError;
 use std::fmt;
 
+// Methods, and no trait of numbered faults: no caller takes any of them, and a cue's place needs that of its first word.
 impl CueFault {
     /// The number of the fault, whichever layer it came about in.
     pub fn number(&self) -> u32
@@ -69,9 +71,9 @@ impl SheetFault {
         match self {
             SheetFault::BadWord { .. } => Layer::Word,
             SheetFault::BadCue { fault, .. } => fault.layer(),
-            SheetFault::BadTable(_) => Layer::Sheet,
-            SheetFault::TooManyCues { .. } => Layer::Sheet,
-            SheetFault::Overloaded { .. } => Layer::Sheet,
+            SheetFault::BadTable(_)
+            | SheetFault::TooManyCues { .. }
+            | SheetFault::Overloaded { .. } => Layer::Sheet,
         }
     }
 
@@ -80,11 +82,11 @@ impl SheetFault {
         ensures { result ≡ fault_place self.now }
     {
         match self {
-            SheetFault::BadWord { place, .. } => *place,
+            SheetFault::BadWord { place, .. }
+            | SheetFault::TooManyCues { place }
+            | SheetFault::Overloaded { place, .. } => *place,
             SheetFault::BadCue { place, fault } => fault.place(*place),
             SheetFault::BadTable(_) => 1,
-            SheetFault::TooManyCues { place } => *place,
-            SheetFault::Overloaded { place, .. } => *place,
         }
     }
 
@@ -97,18 +99,19 @@ impl SheetFault {
             SheetFault::BadCue { fault, .. } => Returned::Value(fault.value()),
             SheetFault::BadTable(refusal) => Returned::Value(refusal.value()),
             SheetFault::TooManyCues { .. } => Returned::Value(CueList::MOST as usize),
-            SheetFault::Overloaded {
-                demand,
-                length,
-                start,
-                end,
-                ..
-            } => Returned::Interval {
-                demand: *demand,
-                length: *length,
-                start: *start,
-                end: *end,
-            },
+            SheetFault::Overloaded { load, .. } => Returned::Interval(*load),
+        }
+    }
+}
+
+impl ReadError {
+    /// The fault, unless it was memory that was wanting.
+    pub fn fault(self) -> Result<SheetFault, AllocError>
+        ensures { result ≡ fault_of self }
+    {
+        match self {
+            ReadError::Fault(fault) => Ok(fault),
+            ReadError::NoMemory => Err(AllocError),
         }
     }
 }

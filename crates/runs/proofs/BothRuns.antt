@@ -51,11 +51,7 @@ restage new (row j l e st) = row j l e new
 abbrev chosen_rows : Slow → Bool → Option SlowRow → List Both → List Both
 chosen_rows s early None rs = rs
 chosen_rows s early (Some m) rs =
-    change
-    is_pending
-    (restage (stage_of s early m))
-    m.job.deadline
-    (others (not (runs m.stage)) s.clock rs)
+    change is_pending (restage (stage_of s early m)) m.job.deadline (others (not (runs m.stage)) s.clock rs)
 
 abbrev both_ticked : State → Bool → Option SlowRow → Option ℕ → State
 both_ticked s early m d =
@@ -92,13 +88,8 @@ change-unseen :
     → map view (change test new d rs) ≡ map view rs
 change-unseen view test new same d [] = refl
 change-unseen {X} view test new same d (r ∷ rs) =
-    cond_both
-    (test r && eqb (due r) d)
-    (new r ∷ rs)
-    (r ∷ change test new d rs)
-    (λ l. map view l ≡ (view r ∷ map view rs))
-    (λ _. ap (λ (x : X). x ∷ map view rs) (same r))
-    (λ _. ap (λ (l : List X). view r ∷ l) (change-unseen view test new same d rs))
+    cond_both (test r && eqb (due r) d) (new r ∷ rs) (r ∷ change test new d rs) (λ l. map view l ≡ (view r ∷ map view rs))
+    (λ _. ap (λ (x : X). x ∷ map view rs) (same r)) (λ _. ap (λ (l : List X). view r ∷ l) (change-unseen view test new same d rs))
 
 map-cond :
     {X : Type 0} (view : Both → X) (v : Bool) (a b : List Both) {x y : List X}
@@ -124,13 +115,8 @@ served-seen after (Some d) rs = go rs
     go : (rs : List Both) → map reference_row (change has_left (serve_row after) d rs) ≡ serve after d (map reference_row rs)
     go [] = refl
     go (row j l e st ∷ rs) =
-        map-cond
-        reference_row
-        (ltb 0 l && eqb j.deadline d)
-        (serve_row after (row j l e st) ∷ rs)
-        (row j l e st ∷ change has_left (serve_row after) d rs)
-        refl
-        (ap (λ r. record { job = j; left = l; end = e } ∷ r) (go rs))
+        map-cond reference_row (ltb 0 l && eqb j.deadline d) (serve_row after (row j l e st) ∷ rs)
+        (row j l e st ∷ change has_left (serve_row after) d rs) refl (ap (λ r. record { job = j; left = l; end = e } ∷ r) (go rs))
 
 others-unseen : (switch : Bool) (t : ℕ) (rs : List Both) → map reference_row (others switch t rs) ≡ map reference_row rs
 others-unseen switch t [] = refl
@@ -141,12 +127,7 @@ chosen_unseen :
     → map reference_row (chosen_rows s early m rs) ≡ map reference_row rs
 chosen_unseen s early None rs = refl
 chosen_unseen s early (Some m) rs =
-    change-unseen
-    reference_row
-    is_pending
-    (restage (stage_of s early m))
-    same
-    m.job.deadline
+    change-unseen reference_row is_pending (restage (stage_of s early m)) same m.job.deadline
     (others (not (runs m.stage)) s.clock rs)
     ∙ others-unseen (not (runs m.stage)) s.clock rs
   where
@@ -178,12 +159,8 @@ put-seen :
     → map slow_row (change is_pending (restage stage) d rs) ≡ put d stage (map slow_row rs)
 put-seen d stage [] = refl
 put-seen d stage (row j l e st ∷ rs) =
-    map-cond
-    slow_row
-    (pending st && eqb j.deadline d)
-    (row j l e stage ∷ rs)
-    (row j l e st ∷ change is_pending (restage stage) d rs)
-    refl
+    map-cond slow_row (pending st && eqb j.deadline d) (row j l e stage ∷ rs)
+    (row j l e st ∷ change is_pending (restage stage) d rs) refl
     (ap (λ r. record { job = j; stage = st } ∷ r) (put-seen d stage rs))
 
 slow-of_ticked :
@@ -237,10 +214,7 @@ reference-of_step s (tick early) = λ i. record {
         (reference (both_step s (tick early))).rows
         ≡ serve_soonest (s.clock + 1) (soonest (map reference_row s.rows)) (map reference_row s.rows)
     seen =
-        chosen_unseen
-        (slow s)
-        early
-        (first pending (map slow_row s.rows))
+        chosen_unseen (slow s) early (first pending (map slow_row s.rows))
         (served_rows (s.clock + 1) (soonest (map reference_row s.rows)) s.rows)
         ∙ served-seen (s.clock + 1) (soonest (map reference_row s.rows)) s.rows
 
@@ -313,10 +287,7 @@ earliest-pending (row j l e st ∷ rs) =
     go false m = refl
     go true None = refl
     go true (Some q) =
-        cond_both
-        (leb j.deadline q.job.deadline)
-        (record { job = j; stage = st })
-        q
+        cond_both (leb j.deadline q.job.deadline) (record { job = j; stage = st }) q
         (λ r. Some (min j.deadline q.job.deadline) ≡ Some r.job.deadline)
         (λ v. ap (λ d. Some d) (omega (arith, leb-true j.deadline q.job.deadline v)))
         (λ v. ap (λ d. Some d) (omega (arith, leb-false j.deadline q.job.deadline v)))
@@ -342,12 +313,7 @@ sorted-chosen :
     ≡ rows_at early (somebody_runs s.rows) s.clock s.handed_bound s.handed_deadline m (sorted rs)
 sorted-chosen s early None rs h = refl
 sorted-chosen s early (Some m) rs h =
-    sorted-change
-    is_pending
-    (restage (stage_of s early m))
-    keeps
-    (others switch s.clock rs)
-    m.job.deadline
+    sorted-change is_pending (restage (stage_of s early m)) keeps (others switch s.clock rs) m.job.deadline
     (earliest-others switch s.clock rs ∙ earliest-pending rs ∙ ap deadline_of h)
     ∙ put-is_change (stage_of s early m) (sorted (others switch s.clock rs))
     ∙ ap (put_first (stage_of s early m)) (sorted-others switch s.clock rs)
@@ -372,26 +338,14 @@ pub sorted-tick :
     (s : State) (early : Bool)
     → sorted (both_step s (tick early)).rows
     ≡ rows_at
-    early
-    (somebody_runs (map slow_row s.rows))
-    s.clock
-    s.handed_bound
-    s.handed_deadline
-    (first pending (map slow_row s.rows))
+    early (somebody_runs (map slow_row s.rows)) s.clock s.handed_bound s.handed_deadline (first pending (map slow_row s.rows))
     (serve_first (s.clock + 1) (sorted s.rows))
 sorted-tick s early =
-    sorted-chosen
-    (slow s)
-    early
-    (first pending (map slow_row s.rows))
+    sorted-chosen (slow s) early (first pending (map slow_row s.rows))
     (served_rows (s.clock + 1) (soonest (map reference_row s.rows)) s.rows)
     (ap (first pending) (served-unseen (s.clock + 1) (soonest (map reference_row s.rows)) s.rows))
     ∙ ap
     (rows_at
-    early
-    (somebody_runs (map slow_row s.rows))
-    s.clock
-    s.handed_bound
-    s.handed_deadline
+    early (somebody_runs (map slow_row s.rows)) s.clock s.handed_bound s.handed_deadline
     (first pending (map slow_row s.rows)))
     (sorted-served (s.clock + 1) s.rows)

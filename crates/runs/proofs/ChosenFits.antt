@@ -33,9 +33,7 @@ stack_yields :
     → Stack t false E W Q rs
     → Stack (t + 1) false E' W' Q' (others switch t rs)
 stack_yields x t E E' W W' Q Q' rs q h s =
-    subst
-    (Stack (t + 1) false E' W' Q')
-    (sym (nobody_yields x t t E W Q rs s))
+    subst (Stack (t + 1) false E' W' Q') (sym (nobody_yields x t t E W Q rs s))
     (stack_eased false t (t + 1) E E' W W' Q Q' rs (omega arith) q h s)
 
 -- The running job is set aside under one that starts: what that one takes from the waiting it adds to the bounds.
@@ -77,11 +75,7 @@ chosen_fits true t H D Q j l e waiting rs p q s h = (
   stack_set_aside t H (t + j.budget) (0 + l) 0 (Q + l) rs (omega (arith, s.0)) (omega (arith, s.0)) s.2,
 )
 chosen_fits false t H D Q j l e waiting rs p q s h =
-    cond_both
-    (ltb j.deadline D || ltb H t)
-    (t + j.budget)
-    (H + j.budget)
-    (λ b. Fits t j.budget waiting b (Q + l) rs)
+    cond_both (ltb j.deadline D || ltb H t) (t + j.budget) (H + j.budget) (λ b. Fits t j.budget waiting b (Q + l) rs)
     (λ v. (
       omega (arith, s.0),
       omega (arith, s.0),

@@ -29,8 +29,7 @@ AllRegular s = AllByRecursion (Regular s.clock) s.rows
 served-agrees : (after : ℕ) (r : Row) → 0 < r.left → Agree r.left r.end → Agree (served after r).left (served after r).end
 served-agrees after r working agree =
     cond_both (eqb r.left 1) _ _ (Agree (r.left - 1))
-    (λ last. omega (arith, eqb-true r.left 1 last))
-    (λ more. unended r.end agree (eqb-false r.left 1 more))
+    (λ last. omega (arith, eqb-true r.left 1 last)) (λ more. unended r.end agree (eqb-false r.left 1 more))
   where
     unended : (o : Option ℕ) → Agree r.left o → (r.left ≡ 1 → ⊥) → Agree (r.left - 1) o
     unended None positive more = omega arith
@@ -43,5 +42,4 @@ pub regular_ticked : (s : Reference) → AllRegular s → AllRegular (step s tic
 regular_ticked s all =
     tick_all (Regular s.clock) (Regular (s.clock + 1)) (s.clock + 1) s.rows
     (λ r regular. (omega arith, regular.1))
-    (λ r has working regular. (omega arith, served-agrees (s.clock + 1) r working regular.1))
-    all
+    (λ r has working regular. (omega arith, served-agrees (s.clock + 1) r working regular.1)) all

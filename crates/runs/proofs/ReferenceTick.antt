@@ -83,18 +83,15 @@ sooner-of_rest : (d e : ℕ) (o : Option ℕ) → (d ≡ e → ⊥) → sooner d
 sooner-of_rest d e None other is = absurd (other is)
 sooner-of_rest d e (Some f) other is = ap Some (omega arith)
 
-some_same : (d e : ℕ) → Some d ≡ Some e → d ≡ e
-some_same d e p = cc
-
 serve-finds : (after d : ℕ) (rows : List Row) → soonest rows ≡ Some d → Finds after d rows
-serve-finds after d [] is = absurd (false≢true (ap is_some is))
+serve-finds after d [] is = cc
 serve-finds after d (r ∷ rows) is = go (ltb 0 r.left) (eqb r.job.deadline d) refl refl (serve-finds after d rows)
   where
     go : (working due : Bool) → ltb 0 r.left ≡ working → eqb r.job.deadline d ≡ due → (soonest rows ≡ Some d → Finds after d rows) → Finds after d (r ∷ rows)
     go true true w e rest = finds_here after d r rows (and_from _ _ w e)
     go true false w e rest =
         finds_later after d r rows (and_right _ _ e)
-        (rest (sooner-of_rest r.job.deadline d (soonest rows) (eqb-false _ d e) (some_same _ d (sym (cond-true _ _ _ w) ∙ is))))
+        (rest (sooner-of_rest r.job.deadline d (soonest rows) (eqb-false _ d e) (cc (sym (cond-true _ _ _ w) ∙ is))))
     go false due w e rest = finds_later after d r rows (and_left _ _ w) (rest (sym (cond-false _ _ _ w) ∙ is))
 
 -- The rows after a tick.
@@ -124,8 +121,7 @@ served-sum f after d rows s =
 pub tick_sum_le : (f : Row → ℕ) (k after : ℕ) (rows : List Row) → ((r : Row) → ContainsAt rows r → f (served after r) ≤ f r + k) → sum_by f (ticked_rows after rows) ≤ sum_by f rows + k
 tick_sum_le f k after rows grows =
     by_tick after rows (λ rs. sum_by f rs ≤ sum_by f rows + k)
-    (λ all_done. omega arith)
-    (λ d s first. omega (arith, served-sum f after d rows s, grows s.row (served-has d rows s)))
+    (λ all_done. omega arith) (λ d s first. omega (arith, served-sum f after d rows s, grows s.row (served-has d rows s)))
 
 -- What holds of every row after a tick: the rows that stay give it, and so does the row served.
 pub tick_all : (P Q : Row → Type 0) (after : ℕ) (rows : List Row) → ((r : Row) → P r → Q r) → ((r : Row) → ContainsAt rows r → 0 < r.left → P r → Q (served after r)) → AllByRecursion P rows → AllByRecursion Q (ticked_rows after rows)
@@ -143,5 +139,4 @@ tick_all P Q after rows stays changes all =
 pub tick_jobs : (after : ℕ) (rows : List Row) → map (λ r. r.job) (ticked_rows after rows) ≡ map (λ r. r.job) rows
 tick_jobs after rows =
     by_tick after rows (λ rs. map (λ r. r.job) rs ≡ map (λ r. r.job) rows)
-    (λ all_done. refl)
-    (λ d s first. map-set_same (λ r. r.job) rows s.place _ s.row (ap (λ r. r.job) (sym s.there)))
+    (λ all_done. refl) (λ d s first. map-set_same (λ r. r.job) rows s.place _ s.row (ap (λ r. r.job) (sym s.there)))

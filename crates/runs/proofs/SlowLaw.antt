@@ -53,42 +53,26 @@ invariant_from :
 invariant_from s f k h =
     record {
       stack =
-          subst
-          (λ f. Stack s.clock f s.handed_bound 0 s.clock (sorted s.rows))
-          (sym (stack_somebody f s.clock s.handed_bound 0 s.clock s.rows k))
-          k;
+          subst (λ f. Stack s.clock f s.handed_bound 0 s.clock (sorted s.rows))
+          (sym (stack_somebody f s.clock s.handed_bound 0 s.clock s.rows k)) k;
       handed = h;
     }
 
 invariant_arrival : (s : State) (d b : ℕ) → 1 ≤ b → Invariant s → Invariant (both_step s (arrival d b))
 invariant_arrival s d b p v =
-    invariant_from
-    (both_step s (arrival d b))
-    (somebody_runs (map slow_row s.rows))
+    invariant_from (both_step s (arrival d b)) (somebody_runs (map slow_row s.rows))
     (subst
     (Stack s.clock (somebody_runs (map slow_row s.rows)) s.handed_bound 0 s.clock)
     (sym (sorted-push s.rows (row (record { release = s.clock; deadline = d; budget = b }) b None waiting)))
     (stack_insert
-    (somebody_runs (map slow_row s.rows))
-    s.clock
-    s.handed_bound
-    0
-    s.clock
-    (record { release = s.clock; deadline = d; budget = b })
-    (sorted s.rows)
-    p
+    (somebody_runs (map slow_row s.rows)) s.clock s.handed_bound 0 s.clock (record { release = s.clock; deadline = d; budget = b })
+    (sorted s.rows) p
     v.stack))
     (subst
     (Handed s.handed_bound s.handed_deadline s.clock)
     (sym (sorted-push s.rows (row (record { release = s.clock; deadline = d; budget = b }) b None waiting)))
     (handed-insert
-    s.handed_bound
-    s.handed_deadline
-    s.clock
-    (record { release = s.clock; deadline = d; budget = b })
-    b
-    None
-    (sorted s.rows)
+    s.handed_bound s.handed_deadline s.clock (record { release = s.clock; deadline = d; budget = b }) b None (sorted s.rows)
     v.handed))
 
 bound_handed_on :
@@ -127,15 +111,12 @@ invariant_tick s early v = invariant_from (both_step s (tick early)) (runs_at ea
         Stack (t + 1) (runs_at early f t H D m) (both_step s (tick early)).handed_bound 0 (t + 1) (sorted (both_step s (tick early)).rows)
         × Handed (both_step s (tick early)).handed_bound (both_step s (tick early)).handed_deadline (t + 1) (sorted (both_step s (tick early)).rows)
     next =
-        subst₃
-        (λ b d rs. Stack (t + 1) (runs_at early f t H D m) b 0 (t + 1) rs × Handed b d (t + 1) rs)
-        (sym (bound_handed_on s early m))
-        (sym (deadline_handed_on s early m))
-        (sym (sorted-tick s early))
+        subst₃ (λ b d rs. Stack (t + 1) (runs_at early f t H D m) b 0 (t + 1) rs × Handed b d (t + 1) rs)
+        (sym (bound_handed_on s early m)) (sym (deadline_handed_on s early m)) (sym (sorted-tick s early))
         (subst
         (λ m. Kept early f t H D (t + 1) m (rows_at early f t H D m (serve_first (t + 1) (sorted s.rows))))
         (sym (first-is_front s.rows))
-        (kept_tick early f t H D t (t + 1) (sorted s.rows) refl refl (sorted-is_sorted s.rows) v.stack v.handed))
+        (kept_tick early t H D f t (t + 1) (sorted s.rows) refl refl (sorted-is_sorted s.rows) v.stack v.handed))
 
 invariant_run : (s : State) (cs : List Call) → Budgeted cs → Invariant s → Invariant (both_run s cs)
 invariant_run s [] p v = v
@@ -170,9 +151,7 @@ pub slow-run_not_behind :
     → ((SlowRun.run SlowRun.fresh cs).clock ≡ (ReferenceRun.run ReferenceRun.fresh (map accepted cs)).clock)
     × RowsAgree (SlowRun.run SlowRun.fresh cs).rows (ReferenceRun.run ReferenceRun.fresh (map accepted cs)).rows
 slow-run_not_behind cs p =
-    subst₂
-    (λ (s : Slow) (r : ReferenceRun.Reference). (s.clock ≡ r.clock) × RowsAgree s.rows r.rows)
-    (slow-of_run both_fresh cs)
+    subst₂ (λ (s : Slow) (r : ReferenceRun.Reference). (s.clock ≡ r.clock) × RowsAgree s.rows r.rows) (slow-of_run both_fresh cs)
     (reference-of_run both_fresh cs) (
       refl,
       rows_agree

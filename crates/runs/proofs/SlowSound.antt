@@ -134,44 +134,26 @@ sound_state s v =
       one_runs = subst (λ n. n ≤ 1) (sym running-one) (one_at_most f);
       runs_first =
           λ somebody.
-          subst
-          (λ o. (m : SlowRow) × (o ≡ Some m) × (runs m.stage ≡ true))
-          (sym (first-is-leading started s.rows))
+          subst (λ o. (m : SlowRow) × (o ≡ Some m) × (runs m.stage ≡ true)) (sym (first-is-leading started s.rows))
           (stack_top t H 0 t (sorted s.rows) (subst (λ f. Stack t f H 0 t (sorted s.rows)) somebody v.stack));
       bounds_hold =
-          All-map
-          (λ r. BoundsHold t L r.stage)
-          slow_row
-          s.rows
+          All-map (λ r. BoundsHold t L r.stage) slow_row s.rows
           (all_sorted
-          (λ r. BoundsHold t L (slow_row r).stage)
-          s.rows
+          (λ r. BoundsHold t L (slow_row r).stage) s.rows
           (stack_bounds f t H 0 t L (sorted s.rows) (omega arith) within v.stack));
       resumable =
           λ nobody.
-          All-map
-          (λ r. Resumable t H r.stage)
-          slow_row
-          s.rows
+          All-map (λ r. Resumable t H r.stage) slow_row s.rows
           (all_sorted
-          (λ r. Resumable t H (slow_row r).stage)
-          s.rows
+          (λ r. Resumable t H (slow_row r).stage) s.rows
           (stack_resumable
-          t
-          H
-          H
-          0
-          t
-          (sorted s.rows)
-          (λ h. h)
+          t H H 0 t (sorted s.rows) (λ h. h)
           (subst (λ f. Stack t f H 0 t (sorted s.rows)) nobody v.stack)));
       handed_holds = omega (arith, within, stack_handed f t H 0 H D t (sorted s.rows) v.stack v.handed);
       chosen_well =
-          from_front
-          (first pending (map slow_row s.rows))
+          from_front (first pending (map slow_row s.rows))
           (subst
-          (FrontWell f t H D L)
-          (sym (first-is_front s.rows))
+          (FrontWell f t H D L) (sym (first-is_front s.rows))
           (stack_front f t H D t L (sorted s.rows) (omega arith) within v.stack v.handed));
     }
   where
@@ -210,41 +192,6 @@ sound_state s v =
 pub slow-run_sound : (cs : List Call) → Budgeted cs → Sound (SlowRun.run SlowRun.fresh cs)
 slow-run_sound cs p =
     subst Sound (slow-of_run both_fresh cs) (sound_state (both_run both_fresh cs) (invariant_always cs p))
-
--- The chosen job is one of the jobs, and its stage passes the test.
-abbrev ChosenHas : (SlowRow → Type 0) → Option SlowRow → Type 0
-ChosenHas P None = Unit {0}
-ChosenHas P (Some m) = P m
-
-chosen_has :
-    (P : SlowRow → Type 0) (test : Stage → Bool) (rows : List SlowRow)
-    → AllByRecursion P rows
-    → ChosenHas (λ m. (test m.stage ≡ true) × P m) (first test rows)
-chosen_has P test [] h = tt
-chosen_has P test (r ∷ rs) h = go (test r.stage) (first test rs) refl (chosen_has P test rs h.1)
-  where
-    go :
-        (v : Bool) (o : Option SlowRow)
-        → test r.stage ≡ v
-        → ChosenHas (λ m. (test m.stage ≡ true) × P m) o
-        → ChosenHas (λ m. (test m.stage ≡ true) × P m) (cond v (Some (earlier r o)) o)
-    go false o e k = k
-    go true None e k = (e, h.0)
-    go true (Some q) e k =
-        cond_both
-        (leb r.job.deadline q.job.deadline)
-        r
-        q
-        (λ m. (test m.stage ≡ true) × P m)
-        (λ _. (e, h.0))
-        (λ _. k)
-
-pub first-has :
-    (P : SlowRow → Type 0) (test : Stage → Bool) (rows : List SlowRow) (m : SlowRow)
-    → AllByRecursion P rows
-    → first test rows ≡ Some m
-    → (test m.stage ≡ true) × P m
-first-has P test rows m h e = subst (ChosenHas (λ m. (test m.stage ≡ true) × P m)) e (chosen_has P test rows h)
 
 -- The job that the next tick chooses is chosen well.
 pub chosen_well_at : (s : Slow) (m : SlowRow) → Sound s → first pending s.rows ≡ Some m → ChosenWell s (Some m)

@@ -15,6 +15,12 @@ abbrev pub sorted : List Both → List Both
 sorted [] = []
 sorted (x ∷ xs) = place x (sorted xs)
 
+-- Where a job is placed beside the first of a list.
+place_cases : (x y : Both) (ys : List Both) (P : List Both → Type 0) → (due x ≤ due y → P (x ∷ y ∷ ys)) → (due y < due x → P (y ∷ place x ys)) → P (place x (y ∷ ys))
+place_cases x y ys P before behind =
+    cond_both (leb (due x) (due y)) (x ∷ y ∷ ys) (y ∷ place x ys) P (λ v. before (leb-true (due x) (due y) v))
+    (λ v. behind (omega (arith, leb-false (due x) (due y) v)))
+
 -- Sorting an arrival in.
 place-insert : (a x : Both) (l : List Both) → place a (insert x l) ≡ insert x (place a l)
 place-insert a x [] = refl
@@ -50,27 +56,13 @@ ahead_trans d d' (y ∷ ys) h a = (omega (arith, a.0), ahead_trans d d' ys h a.1
 ahead_place : (d : ℕ) (x : Both) (l : List Both) → d ≤ due x → Ahead d l → Ahead d (place x l)
 ahead_place d x [] h a = (h, tt)
 ahead_place d x (y ∷ ys) h a =
-    cond_both
-    (leb (due x) (due y))
-    (x ∷ y ∷ ys)
-    (y ∷ place x ys)
-    (Ahead d)
-    (λ _. (h, a))
-    (λ _. (a.0, ahead_place d x ys h a.1))
+    place_cases x y ys (Ahead d) (λ _. (h, a)) (λ _. (a.0, ahead_place d x ys h a.1))
 
 place-sorted : (x : Both) (l : List Both) → Sorted l → Sorted (place x l)
 place-sorted x [] o = (tt, tt)
 place-sorted x (y ∷ ys) o =
-    cond_both
-    (leb (due x) (due y))
-    (x ∷ y ∷ ys)
-    (y ∷ place x ys)
-    Sorted
-    (λ v. (
-      (leb-true (due x) (due y) v, ahead_trans (due x) (due y) ys (leb-true (due x) (due y) v) o.0),
-      o,
-    ))
-    (λ v. (ahead_place (due y) x ys (omega (arith, leb-false (due x) (due y) v)) o.0, place-sorted x ys o.1))
+    place_cases x y ys Sorted (λ before. ((before, ahead_trans (due x) (due y) ys before o.0), o))
+    (λ behind. (ahead_place (due y) x ys (omega arith) o.0, place-sorted x ys o.1))
 
 pub sorted-is_sorted : (xs : List Both) → Sorted (sorted xs)
 sorted-is_sorted [] = tt
@@ -80,12 +72,7 @@ sorted-is_sorted (x ∷ xs) = place-sorted x (sorted xs) (sorted-is_sorted xs)
 all_place : (P : Both → Type 0) (x : Both) (l : List Both) → AllByRecursion P (place x l) → AllByRecursion P (x ∷ l)
 all_place P x [] = λ h. h
 all_place P x (y ∷ ys) =
-    cond_both
-    (leb (due x) (due y))
-    (x ∷ y ∷ ys)
-    (y ∷ place x ys)
-    (λ l. AllByRecursion P l → AllByRecursion P (x ∷ y ∷ ys))
-    (λ _ h. h)
+    place_cases x y ys (λ l. AllByRecursion P l → AllByRecursion P (x ∷ y ∷ ys)) (λ _ h. h)
     (λ _ h. ((all_place P x ys h.1).0, (h.0, (all_place P x ys h.1).1)))
 
 pub all_sorted : (P : Both → Type 0) (xs : List Both) → AllByRecursion P (sorted xs) → AllByRecursion P xs
@@ -100,12 +87,7 @@ summed g (x ∷ xs) = g x + summed g xs
 summed-place : (g : Both → ℕ) (x : Both) (l : List Both) → summed g (place x l) ≡ g x + summed g l
 summed-place g x [] = refl
 summed-place g x (y ∷ ys) =
-    cond_both
-    (leb (due x) (due y))
-    (x ∷ y ∷ ys)
-    (y ∷ place x ys)
-    (λ l. summed g l ≡ g x + (g y + summed g ys))
-    (λ _. refl)
+    place_cases x y ys (λ l. summed g l ≡ g x + (g y + summed g ys)) (λ _. refl)
     (λ _. omega (arith, summed-place g x ys))
 
 pub summed-sorted : (g : Both → ℕ) (xs : List Both) → summed g (sorted xs) ≡ summed g xs
@@ -125,8 +107,7 @@ others-place sw t (row j l e st) (row i k f su ∷ ys) =
         → others sw t (place (row j l e st) ys) ≡ place (yields sw t (row j l e st)) (others sw t ys)
         → others sw t (cond v (row j l e st ∷ row i k f su ∷ ys) (row i k f su ∷ place (row j l e st) ys))
         ≡ cond
-        v
-        (yields sw t (row j l e st) ∷ yields sw t (row i k f su) ∷ others sw t ys)
+        v (yields sw t (row j l e st) ∷ yields sw t (row i k f su) ∷ others sw t ys)
         (yields sw t (row i k f su) ∷ place (yields sw t (row j l e st)) (others sw t ys))
     go true ih = refl
     go false ih = ap (λ r. yields sw t (row i k f su) ∷ r) ih
@@ -166,16 +147,6 @@ from_not_sooner : (d : ℕ) (o : Option ℕ) → From d o → Sooner d o → ⊥
 from_not_sooner d None h k = k
 from_not_sooner d (Some e) h k = omega arith
 
-some_injective : {a b : ℕ} → Some a ≡ Some b → a ≡ b
-some_injective h = cc
-
-some_not_none : {a : ℕ} → Some a ≡ None → ⊥
-some_not_none {a} h = subst is_some h tt
-  where
-    is_some : Option ℕ → Type 0
-    is_some None = ⊥
-    is_some (Some x) = Unit {0}
-
 from_sooner : (d : ℕ) (o : Option ℕ) → sooner d o ≡ d → From d o
 from_sooner d None h = tt
 from_sooner d (Some e) h = omega arith
@@ -199,12 +170,7 @@ module _ (test : Both → Bool) where
   earliest-place : (x : Both) (l : List Both) → earliest test (place x l) ≡ earliest test (x ∷ l)
   earliest-place x [] = refl
   earliest-place x (y ∷ ys) =
-      cond_both
-      (leb (due x) (due y))
-      (x ∷ y ∷ ys)
-      (y ∷ place x ys)
-      (λ l. earliest test l ≡ earliest test (x ∷ y ∷ ys))
-      (λ _. refl)
+      place_cases x y ys (λ l. earliest test l ≡ earliest test (x ∷ y ∷ ys)) (λ _. refl)
       (λ _.
       ap (with_due (test y) (due y)) (earliest-place x ys)
       ∙ with-due-swap (test x) (test y) (due x) (due y) (earliest test ys))
@@ -272,8 +238,7 @@ module _ (test : Both → Bool) (new : Both → Both) (keeps : (x : Both) → du
       go true true v e p f k ih =
           absurd
           (from_not_sooner
-          (due x)
-          (earliest test (y ∷ ys))
+          (due x) (earliest test (y ∷ ys))
           (ahead-earliest test (due x) (y ∷ ys) (leb-true (due x) (due y) e, ahead_trans (due x) (due y) ys (leb-true (due x) (due y) e) o.0))
           (h p))
       go true false true e p f k ih = simp (e, p, f, keeps)
@@ -303,25 +268,20 @@ module _ (test : Both → Bool) (new : Both → Both) (keeps : (x : Both) → du
           rw (e, f)
           (sym
           (change-placed
-          x
-          (sorted xs)
-          e
+          x (sorted xs) e
           (subst
-          (From (due x))
-          (sym (earliest-sorted test xs))
-          (from_sooner (due x) (earliest test xs) (some_injective (rw e at h) ∙ sym (eqb-true (due x) d f))))))
+          (From (due x)) (sym (earliest-sorted test xs))
+          (from_sooner (due x) (earliest test xs) (cc (rw e at h, eqb-true (due x) d f))))))
       go true false e f ih =
           rw (e, f)
           (ap (place x) (ih rest.0)
           ∙ sym
           (change-beside
-          x
-          (sorted xs)
-          (sorted-is_sorted xs)
+          x (sorted xs) (sorted-is_sorted xs)
           (λ _. subst (Sooner (due x)) (sym (earliest-sorted test xs ∙ rest.0)) rest.1)))
         where
           rest : (earliest test xs ≡ Some d) × (d < due x)
-          rest = behind_sooner (due x) d (earliest test xs) (some_injective (rw e at h)) (eqb-false (due x) d f)
+          rest = behind_sooner (due x) d (earliest test xs) (cc (rw e at h)) (eqb-false (due x) d f)
 
   unchanged : (l : List Both) → earliest test l ≡ None → change_first test new l ≡ l
   unchanged [] h = refl
@@ -332,7 +292,7 @@ module _ (test : Both → Bool) (new : Both → Both) (keeps : (x : Both) → du
           → test x ≡ v
           → (earliest test xs ≡ None → change_first test new xs ≡ xs)
           → change_first test new (x ∷ xs) ≡ (x ∷ xs)
-      go true e ih = absurd (some_not_none (rw e at h))
+      go true e ih = cc (rw e at h)
       go false e ih = rw e (ap (λ r. x ∷ r) (ih (rw e at h)))
 
   pub sorted-unchanged : (xs : List Both) → earliest test xs ≡ None → sorted xs ≡ change_first test new (sorted xs)
@@ -379,8 +339,7 @@ module _ (test : Stage → Bool) where
           (ap
           (λ r. Some r)
           (ahead-earlier
-          x
-          (y ∷ ys)
+          x (y ∷ ys)
           (leb-true (due x) (due y) e, ahead_trans (due x) (due y) ys (leb-true (due x) (due y) e) o.0))))
       go true v false e f g ih = rw (e, g) refl
       go false true true e f g ih = rw (e, f, due-slow-row x, due-slow-row y, e) refl

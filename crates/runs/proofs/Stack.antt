@@ -65,20 +65,8 @@ stack_eased f t t' E E' W W' Q Q' (row j l e waiting ∷ rs) a q h s = (
   s.0,
   s.1,
   stack_eased
-      f
-      t
-      t'
-      E
-      E'
-      (W + l)
-      (W' + l)
-      (Q + l)
-      (Q' + l)
-      rs
-      a
-      (omega arith)
-      (eased_below f t t' E E' W W' Q Q' (W + l) (W' + l) l (omega arith) h)
-      s.2,
+      f t t' E E' (W + l) (W' + l) (Q + l) (Q' + l) rs a (omega arith)
+      (eased_below f t t' E E' W W' Q Q' (W + l) (W' + l) l (omega arith) h) s.2,
 )
 stack_eased true t t' E E' W W' Q Q' (row j l e (running b) ∷ rs) a q h s =
     (omega (arith, s.0), s.1, stack_eased false t t' b b W W' (Q + l) (Q' + l) rs a (omega arith) (omega (arith, s.0)) s.2)
@@ -88,20 +76,7 @@ stack_eased false t t' E E' W W' Q Q' (row j l e (aside b n) ∷ rs) a q h s = (
   omega (arith, s.0, h s.0.4),
   s.1,
   stack_eased
-      false
-      t
-      t'
-      (b + E - n)
-      (b + E' - n)
-      W
-      W'
-      (Q + l)
-      (Q' + l)
-      rs
-      a
-      (omega arith)
-      (omega (arith, s.0, h s.0.4))
-      s.2,
+      false t t' (b + E - n) (b + E' - n) W W' (Q + l) (Q' + l) rs a (omega arith) (omega (arith, s.0, h s.0.4)) s.2,
 )
 stack_eased f t t' E E' W W' Q Q' (row j l e (over s₁ b) ∷ rs) a q h s = (
   omega (arith, s.0),
@@ -131,13 +106,8 @@ stack_place :
     → Stack t f E W Q (y ∷ insert (row j j.budget None waiting) rs)
     → Stack t f E W Q (insert (row j j.budget None waiting) (y ∷ rs))
 stack_place f t E W Q j y rs p s later =
-    cond_both
-    (leb (due y) j.deadline)
-    (y ∷ insert (row j j.budget None waiting) rs)
-    (row j j.budget None waiting ∷ y ∷ rs)
-    (Stack t f E W Q)
-    (λ _. later)
-    (λ _. stack_waiting f t E W Q j (y ∷ rs) p s)
+    cond_both (leb (due y) j.deadline) (y ∷ insert (row j j.budget None waiting) rs) (row j j.budget None waiting ∷ y ∷ rs)
+    (Stack t f E W Q) (λ _. later) (λ _. stack_waiting f t E W Q j (y ∷ rs) p s)
 
 -- An arrival keeps the stack.
 pub stack_insert :
@@ -153,18 +123,7 @@ stack_insert true t E W Q j (row i l e (running b) ∷ rs) p s =
 stack_insert false t E W Q j (row i l e (running b) ∷ rs) p s = absurd s
 stack_insert true t E W Q j (row i l e (aside b n) ∷ rs) p s = absurd s
 stack_insert false t E W Q j (row i l e (aside b n) ∷ rs) p s =
-    stack_place
-    false
-    t
-    E
-    W
-    Q
-    j
-    (row i l e (aside b n))
-    rs
-    p
-    s
-    (s.0, s.1, stack_insert false t (b + E - n) W (Q + l) j rs p s.2)
+    stack_place false t E W Q j (row i l e (aside b n)) rs p s (s.0, s.1, stack_insert false t (b + E - n) W (Q + l) j rs p s.2)
 stack_insert f t E W Q j (row i l e (over s₁ b) ∷ rs) p s =
     stack_place f t E W Q j (row i l e (over s₁ b)) rs p s (s.0, s.1, stack_insert f t E W (Q + l) j rs p s.2)
 
@@ -180,12 +139,8 @@ pub handed-insert :
     → Handed H D Q (insert (row j l e waiting) rs)
 handed-insert H D Q j l e [] h = (inl h, omega arith)
 handed-insert H D Q j l e (row i k e' st ∷ rs) h =
-    cond_both
-    (leb i.deadline j.deadline)
-    (row i k e' st ∷ insert (row j l e waiting) rs)
-    (row j l e waiting ∷ row i k e' st ∷ rs)
-    (Handed H D Q)
-    (λ _. (h.0, handed-insert H D (Q + k) j l e rs h.1))
+    cond_both (leb i.deadline j.deadline) (row i k e' st ∷ insert (row j l e waiting) rs) (row j l e waiting ∷ row i k e' st ∷ rs)
+    (Handed H D Q) (λ _. (h.0, handed-insert H D (Q + k) j l e rs h.1))
     (λ later. (
       ⊎_elim inl (λ b. inr (before-earlier st i.deadline j.deadline D (leb-false i.deadline j.deadline later) b)) h.0,
       handed-later H D Q (Q + l) (row i k e' st ∷ rs) (omega arith) h,

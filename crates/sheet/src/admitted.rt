@@ -6,7 +6,7 @@ ghost use Rattle.sheet.specs.Sheets.{jobs};
 mod methods;
 
 use crate::read::ReadSheet;
-use faults::SheetFault;
+use faults::ReadError;
 
 /// A sheet that was admitted. Nothing but [`ReadSheet::admit`] makes one.
 #[derive(Drop)]
@@ -15,10 +15,9 @@ pub struct AdmittedSheet {
     ghost feasible: { Feasible (jobs sheet) },
 }
 
-/// Why a sheet was not admitted. The sheet comes back as it was.
+/// A sheet that was not admitted, as it was, and why: it demands more ticks than there are, or memory was wanting.
 #[derive(Drop)]
-pub enum NotAdmitted {
-    /// It demands more ticks than there are.
-    Refused { sheet: ReadSheet, fault: SheetFault },
-    NoMemory { sheet: ReadSheet },
+pub struct NotAdmitted {
+    pub sheet: ReadSheet,
+    pub why: ReadError,
 }

@@ -1,22 +1,18 @@
 //! What is told of a sheet.
 ghost use Rattle.std.specs.Prelude.{IfOk, Some};
 ghost use Rattle.sheetcheck.specs.Report.{Reports, Summarizes};
-ghost use Rattle.sheetcheck.specs.Shown.{report_lines, summary_lines, verdict_line, load_line, rates_line};
+ghost use Rattle.sheetcheck.specs.Shown.{report_lines, summary_lines};
 
-use faults::{ReadError, SheetFault};
+use cues::load::Load;
+use faults::SheetFault;
 use rates::RateTable;
-use sheet::admitted::NotAdmitted;
 use sheet::read::ReadSheet;
 use std::alloc::{AllocError, Global};
 use std::fmt;
 
-/// What is told of a sheet.
+/// What is told of a sheet: a summary, or the fault that keeps it from being read.
 #[derive(Clone, Copy)]
-pub enum Report {
-    /// The fault that keeps it from being read.
-    Unreadable(SheetFault),
-    Readable(Summary),
-}
+pub struct Report(Result<Summary, SheetFault>);
 
 /// What is told of a sheet that was read.
 #[derive(Clone, Copy)]
@@ -24,40 +20,19 @@ pub struct Summary {
     table: RateTable,
     cues: usize,
     load: Load,
-    verdict: Verdict,
-}
-
-/// The loading factor of a sheet.
-#[derive(Clone, Copy)]
-pub struct Load {
-    demand: u32,
-    length: u32,
-    start: u32,
-    end: u32,
-}
-
-/// Whether a sheet is admitted, and why not.
-#[derive(Clone, Copy)]
-pub enum Verdict {
-    Admitted,
-    Refused(SheetFault),
-}
-
-/// The rates of a table, to be shown on a line.
-#[derive(Clone, Copy)]
-struct Rates {
-    table: RateTable,
+    /// The sheet is admitted, or refused for this fault.
+    verdict: Result<(), SheetFault>,
 }
 
 /// What is told of the sheet that these bytes are.
 pub fn report_on(heap: Global, bytes: &[u8]) -> Result<Report, AllocError>
-    ensures { IfOk result (λ report. Reports bytes.now report) }
+    ensures { IfOk result (λ report. Reports bytes.now report.0) }
 {
-    match ReadSheet::from_bytes(heap, bytes) {
-        Ok(sheet) => Ok(Report::Readable(summary_of(heap, sheet)?)),
-        Err(ReadError::Fault(fault)) => Ok(Report::Unreadable(fault)),
-        Err(ReadError::NoMemory) => Err(AllocError),
-    }
+    let told = match ReadSheet::from_bytes(heap, bytes) {
+        Ok(sheet) => Ok(summary_of(heap, sheet)?),
+        Err(error) => Err(error.fault()?),
+    };
+    Ok(Report(told))
 }
 
 /// What is told of a sheet that was read.
@@ -66,17 +41,10 @@ fn summary_of(heap: Global, sheet: ReadSheet) -> Result<Summary, AllocError>
 {
     let table = *sheet.table();
     let cues = sheet.cues().len();
-    let (demand, length, start, end) = sheet.loading_factor(heap)?;
-    let load = Load {
-        demand,
-        length,
-        start,
-        end,
-    };
+    let load = Load::from(sheet.loading_factor(heap)?);
     let verdict = match sheet.admit(heap) {
-        Ok(_) => Verdict::Admitted,
-        Err(NotAdmitted::Refused { fault, .. }) => Verdict::Refused(fault),
-        Err(NotAdmitted::NoMemory { .. }) => return Err(AllocError),
+        Ok(_) => Ok(()),
+        Err(refused) => Err(refused.why.fault()?),
     };
     Ok(Summary {
         table,
@@ -87,12 +55,12 @@ fn summary_of(heap: Global, sheet: ReadSheet) -> Result<Summary, AllocError>
 }
 
 impl fmt::Display for Report {
-    ghost output = { λ r. Some (report_lines r) };
+    ghost output = { λ r. Some (report_lines r.0) };
 
     fn fmt<W: fmt::Write>(&self, f: &mut fmt::Formatter<W>) -> fmt::Result {
-        match self {
-            Report::Unreadable(fault) => write!(f, "{fault}"),
-            Report::Readable(summary) => write!(f, "{summary}"),
+        match self.0 {
+            Ok(summary) => write!(f, "{summary}"),
+            Err(fault) => write!(f, "{fault}"),
         }
     }
 }
@@ -102,45 +70,21 @@ impl fmt::Display for Summary {
     ghost output = { λ s. Some (summary_lines s) };
 
     fn fmt<W: fmt::Write>(&self, f: &mut fmt::Formatter<W>) -> fmt::Result {
-        let rates = Rates { table: self.table };
-        let cues = self.cues;
-        let load = self.load;
-        let verdict = self.verdict;
-        write!(f, "{rates}\ncues {cues}\n{load}\n{verdict}")
-    }
-}
-
-impl fmt::Display for Load {
-    ghost output = { λ l. Some (load_line l) };
-
-    fn fmt<W: fmt::Write>(&self, f: &mut fmt::Formatter<W>) -> fmt::Result {
-        let demand = self.demand;
-        let length = self.length;
-        let start = self.start;
-        let end = self.end;
-        write!(f, "load {demand} of {length} in {start} to {end}")
-    }
-}
-
-impl fmt::Display for Verdict {
-    ghost output = { λ v. Some (verdict_line v) };
-
-    fn fmt<W: fmt::Write>(&self, f: &mut fmt::Formatter<W>) -> fmt::Result {
-        match self {
-            Verdict::Admitted => write!(f, "admitted"),
-            Verdict::Refused(fault) => write!(f, "{fault}"),
-        }
-    }
-}
-
-impl fmt::Display for Rates {
-    ghost output = { λ r. Some (rates_line r.table) };
-
-    fn fmt<W: fmt::Write>(&self, f: &mut fmt::Formatter<W>) -> fmt::Result {
         write!(f, "rates")?;
         for rate in self.table.as_slice() {
             write!(f, " {rate}")?;
         }
-        Ok(())
+        writeln!(f, "\ncues {}", self.cues)?;
+        let Load {
+            demand,
+            length,
+            start,
+            end,
+        } = self.load;
+        writeln!(f, "load {demand} of {length} in {start} to {end}")?;
+        match self.verdict {
+            Ok(()) => write!(f, "admitted"),
+            Err(refusal) => write!(f, "{refusal}"),
+        }
     }
 }

@@ -1,50 +1,41 @@
 //! Admitting a sheet, and looking at one that was admitted.
-ghost use Rattle.std.specs.Prelude.{◌≡◌, IfOk};
+ghost use Rattle.std.specs.Prelude.{◌≡◌};
 ghost use Rattle.cues.specs.CueLists.{cues_of};
 ghost use Rattle.cues.specs.Cues.{jobs_of};
 ghost use Rattle.cues.specs.Demand.{Feasible};
 ghost use Rattle.sheet.specs.Sheets.{jobs};
-ghost use Rattle.sheet.specs.Admission.{Admission, Overload};
+ghost use Rattle.sheet.specs.Admission.{Admission, Loaded};
 
 use super::{AdmittedSheet, NotAdmitted};
 use crate::read::ReadSheet;
 use cues::cue::Cue;
-use faults::SheetFault;
+use cues::load::Load;
+use faults::{ReadError, SheetFault};
 use rates::RateTable;
-use std::alloc::{AllocError, Global};
+use std::alloc::Global;
 
 impl ReadSheet {
     /// Admits the sheet if no interval demands more ticks than it has, and otherwise gives it back.
     pub fn admit(self, heap: Global) -> Result<AdmittedSheet, NotAdmitted>
         ensures { Admission self result }
     {
-        match overload(&self, heap) {
-            Ok(None) => Ok(AdmittedSheet { sheet: self }),
-            Ok(Some((demand, length, start, end))) => {
-                let place = self.end_place();
-                let fault = SheetFault::Overloaded {
-                    demand,
-                    length,
-                    start,
-                    end,
-                    place,
-                };
-                Err(NotAdmitted::Refused { sheet: self, fault })
-            }
-            Err(_) => Err(NotAdmitted::NoMemory { sheet: self }),
+        if let Err(why) = check_load(&self, heap) {
+            return Err(NotAdmitted { sheet: self, why });
         }
+        Ok(AdmittedSheet { sheet: self })
     }
 }
 
-/// The loading factor, if it is that of an interval that demands more ticks than it has.
-fn overload(sheet: &ReadSheet, heap: Global) -> Result<Option<(u32, u32, u32, u32)>, AllocError>
-    ensures { IfOk result (λ found. Overload sheet.now found) }
+/// No interval of the sheet demands more ticks than it has; otherwise the one of the loading factor is the fault.
+fn check_load(sheet: &ReadSheet, heap: Global) -> Result<(), ReadError>
+    ensures { Loaded sheet.now result }
 {
-    let (demand, length, start, end) = sheet.loading_factor(heap)?;
-    if demand <= length {
-        return Ok(None);
+    let load = Load::from(sheet.loading_factor(heap)?);
+    if load.demand <= load.length {
+        return Ok(());
     }
-    Ok(Some((demand, length, start, end)))
+    let place = sheet.end_place();
+    Err(ReadError::Fault(SheetFault::Overloaded { load, place }))
 }
 
 impl AdmittedSheet {
