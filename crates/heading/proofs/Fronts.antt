@@ -6,9 +6,9 @@ use Rattle.std.specs.List.{AllByRecursion}
 use Rattle.words.specs.declared.Kind.TheVariants.{Rate}
 use Rattle.words.specs.declared.fault.WordFault.{WordFault}
 use Rattle.words.specs.declared.fault.WordFault.TheVariants.{Misplaced}
-use Rattle.words.specs.Words.{is, payload, word}
+use Rattle.words.specs.Words.{is, begins, payload, word}
 use Rattle.words.proofs.WordParts.{is_word, payload-word, payload-fits, word-of_kind}
-use Rattle.heading.specs.Heading.{rates_in, behind_rates, at_rate, Front, head, WordsOf}
+use Rattle.heading.specs.Heading.{rates_in, behind_rates, Front, head, WordsOf}
 
 fault_is_no_head : (fault : WordFault) (front : Front) → ◌≡◌ {A = Result Front WordFault} (Err fault) (Ok front) → ⊥
 fault_is_no_head fault front h = let z : ◌≡◌ {A = ℕ} 0 1 = cc in omega arith
@@ -29,9 +29,9 @@ rates_fit_words [] = tt
 rates_fit_words (w ∷ ws) =
     cond_both (is Rate w) (payload w ∷ rates_in ws) [] (AllByRecursion (λ rate. rate < 2 ^ 28)) (λ _. (payload-fits w, rates_fit_words ws)) (λ _. tt)
 
-no_rate_behind : (ws : List ℕ) → at_rate (behind_rates ws) ≡ false
+no_rate_behind : (ws : List ℕ) → begins Rate (behind_rates ws) ≡ false
 no_rate_behind [] = refl
-no_rate_behind (w ∷ ws) = cond_both (is Rate w) (behind_rates ws) (w ∷ ws) (λ vs. at_rate vs ≡ false) (λ _. no_rate_behind ws) (λ other. other)
+no_rate_behind (w ∷ ws) = cond_both (is Rate w) (behind_rates ws) (w ∷ ws) (λ vs. begins Rate vs ≡ false) (λ _. no_rate_behind ws) (λ other. other)
 
 -- Words that have a head are those of that head.
 pub words_of_head : (words : List ℕ) (front : Front) → head words ≡ Ok front → WordsOf words front
@@ -53,7 +53,7 @@ head-counts words front h =
     let same = ap length (words_of_head words front h).same_words in
     omega (arith, same, length-append (map (word Rate) front.rates) front.rest, length-map front.rates (word Rate))
 
-rates_back : (rates rest : List ℕ) → AllByRecursion (λ rate. rate < 2 ^ 28) rates → at_rate rest ≡ false → (rates_in (map (word Rate) rates ++ rest) ≡ rates) × (behind_rates (map (word Rate) rates ++ rest) ≡ rest)
+rates_back : (rates rest : List ℕ) → AllByRecursion (λ rate. rate < 2 ^ 28) rates → begins Rate rest ≡ false → (rates_in (map (word Rate) rates ++ rest) ≡ rates) × (behind_rates (map (word Rate) rates ++ rest) ≡ rest)
 rates_back [] [] fit no_more = (refl, refl)
 rates_back [] (w ∷ ws) fit no_more = (cond-false _ _ _ no_more, cond-false _ _ _ no_more)
 rates_back (rate ∷ rates) rest (fits, fit) no_more =

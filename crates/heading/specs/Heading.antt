@@ -1,10 +1,10 @@
 -- The head of a file: edition 1, and a word for each rate.
-use Rattle.std.specs.Prelude.{◌≡◌, ℕ, ◌^◌, ◌<◌, Bool, false, cond, List, [], ◌∷◌, ◌++◌, map, Ok, Err, Result, ◌==◌}
+use Rattle.std.specs.Prelude.{◌≡◌, ℕ, ◌^◌, ◌<◌, false, cond, List, [], ◌∷◌, ◌++◌, map, Ok, Err, Result, ◌==◌}
 use Rattle.std.specs.List.{AllByRecursion}
 use Rattle.words.specs.declared.Kind.TheVariants.{Edition, Rate}
 use Rattle.words.specs.declared.fault.WordFault.{WordFault}
 use Rattle.words.specs.declared.fault.WordFault.TheVariants.{Misplaced, EndsEarly}
-use Rattle.words.specs.Words.{is, payload, word}
+use Rattle.words.specs.Words.{is, begins, payload, word}
 
 -- The rates at the front of some words, up to the first word of another kind.
 abbrev pub rates_in : List ℕ → List ℕ
@@ -26,13 +26,8 @@ abbrev pub head : List ℕ → Result Front WordFault
 head [] = Err EndsEarly
 head (w ∷ ws) = cond (w == 1) (Ok (record { rates = rates_in ws; rest = behind_rates ws })) (Err Misplaced)
 
--- A rate stands first.
-abbrev pub at_rate : List ℕ → Bool
-at_rate [] = false
-at_rate (w ∷ ws) = is Rate w
-
 -- The words are edition 1, a word for each rate, and then what does not begin with a rate.
 pub record WordsOf (words : List ℕ) (front : Front) : Type 0 where
   pub same_words : words ≡ word Edition 1 ∷ (map (word Rate) front.rates ++ front.rest)
   pub rates_fit : AllByRecursion (λ rate. rate < 2 ^ 28) front.rates
-  pub no_more : at_rate front.rest ≡ false
+  pub no_more : begins Rate front.rest ≡ false

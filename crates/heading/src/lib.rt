@@ -4,10 +4,12 @@
 
 ghost use Rattle.std.specs.Prelude.{◌≡◌, ◌+◌, ◌≤◌, length, IfOk};
 ghost use Rattle.heading.specs.declared.HeadError.TheVariants.{FirstWord, NoMemory};
-ghost use Rattle.heading.specs.Heads.{Edition, Rates, ReadAs};
+ghost use Rattle.heading.specs.Heading.{rates_in};
+ghost use Rattle.heading.specs.Heads.{Edition, ReadAs};
 
 use std::alloc::{AllocError, Global};
 use words::fault::WordFault;
+use words::unread::Unread;
 use words::{Kind, is_kind, payload_of};
 
 /// The head of a file.
@@ -16,7 +18,7 @@ pub struct Head<'a> {
     /// The rates as they stand, whether or not they make a table.
     pub rates: Vec<u32>,
     /// The words behind the rates. The first of them, if there is one, is no rate.
-    pub rest: &'a [u32],
+    pub rest: Unread<'a>,
 }
 
 /// Why no head came of the words.
@@ -54,28 +56,26 @@ fn check_edition(words: &[u32]) -> Result<(), WordFault>
     }
 }
 
-/// The rates behind the first word, and the words behind them.
-fn read_rates(heap: Global, words: &[u32]) -> Result<(Vec<u32>, &[u32]), AllocError>
-    requires { 1 ≤ length words.now }
-    ensures { IfOk result (λ p. Rates words.now p.0.items p.1.now) }
+/// The rates at the front of the words, up to the first word of another kind.
+fn rates_at_front(heap: Global, words: &[u32]) -> Result<Vec<u32>, AllocError>
+    ensures { IfOk result (λ rates. rates.items ≡ rates_in words.now) }
 {
-    let mut rates = Vec::new(heap);
-    let mut left = &words[1..];
-    while let [rate, rest @ ..] = left
-        && is_kind(*rate, Kind::Rate)
-    {
-        rates.push(payload_of(*rate))?;
-        left = rest;
-    }
-    Ok((rates, left))
+    words
+        .iter()
+        .take_while(|word| is_kind(**word, Kind::Rate))
+        .map(|word| payload_of(*word))
+        .collect(heap)
 }
 
 /// Reads the head of a file.
 pub fn read_head(heap: Global, words: &[u32]) -> Result<Head<'_>, HeadError>
     ensures read { ReadAs words.now result }
-    ensures counted { IfOk result (λ head. 1 + length head.rates.items + length head.rest.now ≡ length words.now) }
+    ensures counted { IfOk result (λ head. 1 + length head.rates.items + length head.rest.words.now ≡ length words.now) }
+    ensures placed { IfOk result (λ head. head.rest.place ≡ 1 + length head.rates.items) }
 {
     check_edition(words)?;
-    let (rates, rest) = read_rates(heap, words)?;
+    let file = Unread::all(words);
+    let rates = rates_at_front(heap, file.behind(1).words())?;
+    let rest = file.behind(1 + rates.len());
     Ok(Head { rates, rest })
 }

@@ -1,8 +1,11 @@
 -- A fault stands at one of the words, or behind the last where they end early.
-use Rattle.std.proofs.Common.{◌≡◌, ℕ, ◌+◌, ◌-◌, ◌≤◌, cond, eqb, ltb, List, [], ◌∷◌, ◌++◌, length, Some, None, Ok, Err, Option, Result, subst, arith}
+use Rattle.std.proofs.Common.{◌≡◌, ℕ, ◌+◌, ◌-◌, ◌≤◌, cond, eqb, ltb, List, [], ◌∷◌, ◌++◌, length, Some, None, Ok, Err, Option, Result, refl, subst, arith}
 use Rattle.std.proofs.lemmas.Bool.{cond_both}
-use Rattle.words.specs.declared.Kind.TheVariants.{Release, Deadline, Budget, Spent, Rate, End}
+use Rattle.words.specs.declared.Kind.TheVariants.{Release, Deadline, Budget, Spent, End}
 use Rattle.words.specs.Words.{is, payload}
+use Rattle.words.specs.declared.fault.WordFault.{WordFault}
+use Rattle.heading.specs.Heading.{Front, head}
+use Rattle.heading.proofs.Fronts.{head-counts}
 use Rattle.rates.specs.declared.refusal.TableRefusal.{TableRefusal}
 use Rattle.rates.specs.Judged.{judged}
 use Rattle.cues.specs.declared.refusal.CueRefusal.{CueRefusal}
@@ -13,7 +16,7 @@ use Rattle.faults.specs.declared.ReadError.{ReadError}
 use Rattle.faults.specs.declared.ReadError.TheVariants.{Fault, NoMemory}
 use Rattle.sheet.specs.declared.read.ReadSheet.{ReadSheet}
 use Rattle.faults.specs.Fault.{fault_place}
-use Rattle.sheet.specs.Reading.{Entry, Contents, Reading, Part, none, released, due, budgeted, ended, cues_from, cue_taken, rates_from, reading}
+use Rattle.sheet.specs.Reading.{Entry, Contents, Reading, Part, none, released, due, budgeted, ended, cues_from, cue_taken, table_judged, behind_head, reading}
 use Rattle.sheet.specs.Sheets.{ReadAs, Placed}
 
 -- A fault, if there is one, stands at this place at the latest.
@@ -51,21 +54,20 @@ cues_upto place rates before (budgeted r d b) (w ∷ ws) =
     (λ _. taken_upto (place + length (w ∷ ws)) (place - 3) before e _ (omega arith) (next place w ws _ (cues_upto (place + 1) rates (before ++ (e ∷ [])) none ws)))
     (λ _. omega arith)
 
-rates_upto : (place : ℕ) (before ws : List ℕ) → 1 ≤ place → Upto (place + length ws) (rates_from place before ws)
-rates_upto place before [] from_one = omega arith
-rates_upto place before (w ∷ ws) from_one =
-    cond_both (is Rate w) _ _ (Upto (place + length (w ∷ ws)))
-    (λ _. next place w ws _ (rates_upto (place + 1) (before ++ (payload w ∷ [])) ws (omega arith)))
-    (λ _. by-verdict (judged before))
+judged-upto : (place : ℕ) (rates ws : List ℕ) → 1 ≤ place → Upto (place + length ws) (table_judged place rates ws)
+judged-upto place rates [] from_one = omega arith
+judged-upto place rates (w ∷ ws) from_one = by-verdict (judged rates)
   where
-    by-verdict : (o : Option TableRefusal) → Upto (place + length (w ∷ ws)) (elim o [ Some refusal ↦ Err (BadTable refusal) | None ↦ cues_from place before [] none (w ∷ ws) ])
+    by-verdict : (o : Option TableRefusal) → Upto (place + length (w ∷ ws)) (elim o [ Some refusal ↦ Err (BadTable refusal) | None ↦ cues_from place rates [] none (w ∷ ws) ])
     by-verdict (Some refusal) = omega arith
-    by-verdict None = cues_upto place before [] none (w ∷ ws)
+    by-verdict None = cues_upto place rates [] none (w ∷ ws)
 
 reading-upto : (words : List ℕ) → Upto (length words) (reading words)
-reading-upto [] = omega arith
-reading-upto (w ∷ ws) =
-    cond_both (eqb w 1) _ _ (Upto (length (w ∷ ws))) (λ _. subst (λ n. Upto n (rates_from 1 [] ws)) (omega arith) (rates_upto 1 [] ws (omega arith))) (λ _. omega arith)
+reading-upto words = by-head (head words) refl
+  where
+    by-head : (r : Result Front WordFault) → head words ≡ r → Upto (length words) (behind_head r)
+    by-head (Ok front) is = subst (λ n. Upto n (behind_head (Ok front))) (head-counts words front is) (judged-upto (1 + length front.rates) front.rates front.rest (omega arith))
+    by-head (Err fault) is = omega arith
 
 pub placed_by_answer : (words : List ℕ) (r : Result ReadSheet ReadError) → ReadAs words r → Placed words r
 placed_by_answer words (Ok sheet) h = tt

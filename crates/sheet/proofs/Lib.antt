@@ -1,6 +1,4 @@
 mod CueWords
-mod CueSteps
-mod RateSteps
 mod CueBounds
 mod ReadBack
 mod WriteBack

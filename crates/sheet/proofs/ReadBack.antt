@@ -1,19 +1,21 @@
 -- Words that are read are the words of what is read, and that is sound.
-use Rattle.std.proofs.Common.{◌≡◌, ℕ, ◌+◌, ◌-◌, ◌<◌, ◌≤◌, true, eqb, List, [], ◌∷◌, ◌++◌, map, length, Some, None, Ok, Err, Option, sym, refl, ap, ◌∙◌, subst, append_assoc, mod-lt, arith, length-append}
+use Rattle.std.proofs.Common.{◌≡◌, ℕ, ◌+◌, ◌-◌, ◌<◌, ◌≤◌, true, eqb, List, [], ◌∷◌, ◌++◌, map, length, Some, None, Ok, Err, Option, Result, sym, refl, ap, ◌∙◌, subst, mod-lt, arith, length-append}
 use Rattle.std.proofs.ByRecursion.{All-push}
-use Rattle.std.proofs.lemmas.List.{map-append}
 use Rattle.std.proofs.lemmas.Bool.{cond_both, eqb-true}
 use Rattle.std.specs.List.{AllByRecursion}
 use Rattle.rates.specs.declared.refusal.TableRefusal.{TableRefusal}
 use Rattle.rates.specs.Judged.{judged}
 use Rattle.rates.specs.Lawful.{Lawful}
 use Rattle.rates.proofs.Tables.{lawful_when_not_refused}
-use Rattle.words.specs.declared.Kind.TheVariants.{Release, Deadline, Budget, Spent, Rate, End}
+use Rattle.words.specs.declared.Kind.TheVariants.{Edition, Release, Deadline, Budget, Spent, Rate, End}
 use Rattle.words.specs.Words.{is, payload, word}
 use Rattle.words.proofs.WordParts.{word-of_kind}
+use Rattle.words.specs.declared.fault.WordFault.{WordFault}
 use Rattle.words.specs.declared.fault.WordFault.TheVariants.{Misplaced}
+use Rattle.heading.specs.Heading.{Front, head}
+use Rattle.heading.proofs.Fronts.{words_of_head}
 use Rattle.faults.specs.declared.SheetFault.TheVariants.{BadWord as sheet_word, BadTable}
-use Rattle.sheet.specs.Reading.{Entry, Contents, Reading, Part, none, released, due, budgeted, ended, cues_from, rates_from, table_judged, reading}
+use Rattle.sheet.specs.Reading.{Entry, Contents, Reading, Part, none, released, due, budgeted, ended, cues_from, table_judged, behind_head, reading}
 use Rattle.sheet.specs.SheetWords.{SoundCue, Sound, cue_words, words_behind_table, sheet_words}
 use Rattle.sheet.proofs.CueBounds.{fault_is_no_sheet, taken_where_read}
 
@@ -92,21 +94,22 @@ cues_read place rates before (budgeted r d b) (w ∷ ws) c =
     (cue_before rates before e ws c taken.sound taken.room (cues_read (place + 1) rates (before ++ (e ∷ [])) none ws c taken.behind)))
     (λ _ h. absurd (fault_is_no_sheet _ c h))
 
--- The rates before and the words that are left make up the rates, the cues and the end of a sound sheet.
-record RatesRead (before left : List ℕ) (c : Contents) : Type 0 where
-  same_words : map (word Rate) before ++ left ≡ map (word Rate) c.rates ++ words_behind_table c
+-- The rates and the words that are left make up the rates, the cues and the end of a sound sheet.
+record TableRead (rates left : List ℕ) (c : Contents) : Type 0 where
+  same_words : map (word Rate) rates ++ left ≡ map (word Rate) c.rates ++ words_behind_table c
   sound : Sound c
 
--- The table that the rates before make is lawful, and the cues follow it.
-table_then_cues : (place : ℕ) (rates ws : List ℕ) (c : Contents) → table_judged place rates ws ≡ Ok c → RatesRead rates ws c
-table_then_cues place rates ws c = by-verdict (judged rates) refl
+-- The table that the rates make is lawful, and the cues follow it.
+table_then_cues : (place : ℕ) (rates ws : List ℕ) (c : Contents) → table_judged place rates ws ≡ Ok c → TableRead rates ws c
+table_then_cues place rates [] c = λ h. absurd (fault_is_no_sheet _ c h)
+table_then_cues place rates (w ∷ ws) c = by-verdict (judged rates) refl
   where
-    by-verdict : (o : Option TableRefusal) → judged rates ≡ o → ◌≡◌ {A = Reading} (elim o [ Some refusal ↦ Err (BadTable refusal) | None ↦ cues_from place rates [] none ws ]) (Ok c) → RatesRead rates ws c
+    by-verdict : (o : Option TableRefusal) → judged rates ≡ o → ◌≡◌ {A = Reading} (elim o [ Some refusal ↦ Err (BadTable refusal) | None ↦ cues_from place rates [] none (w ∷ ws) ]) (Ok c) → TableRead rates (w ∷ ws) c
     by-verdict (Some refusal) is = λ h. absurd (fault_is_no_sheet _ c h)
     by-verdict None is = λ h.
-        let r : CuesRead rates [] ws c = cues_read place rates [] none ws c h in
+        let r : CuesRead rates [] (w ∷ ws) c = cues_read place rates [] none (w ∷ ws) c h in
         record {
-          same_words = ap (λ rs. map (word Rate) rs ++ ws) (sym r.same_rates) ∙ ap (λ ws. map (word Rate) c.rates ++ ws) r.same_words;
+          same_words = ap (λ rs. map (word Rate) rs ++ (w ∷ ws)) (sym r.same_rates) ∙ ap (λ ws. map (word Rate) c.rates ++ ws) r.same_words;
           sound =
               record {
                 table = subst Lawful (sym r.same_rates) (lawful_when_not_refused rates is);
@@ -115,28 +118,12 @@ table_then_cues place rates ws c = by-verdict (judged rates) refl
               };
         }
 
-rate_words_push : (before : List ℕ) (rate : ℕ) (left : List ℕ) → map (word Rate) (before ++ (rate ∷ [])) ++ left ≡ map (word Rate) before ++ (word Rate rate ∷ left)
-rate_words_push before rate left = ap (λ ws. ws ++ left) (map-append (word Rate) before (rate ∷ [])) ∙ append_assoc (map (word Rate) before) (word Rate rate ∷ []) left
-
-rates_read : (place : ℕ) (before ws : List ℕ) (c : Contents) → rates_from place before ws ≡ Ok c → RatesRead before ws c
-rates_read place before [] c = λ h. absurd (fault_is_no_sheet _ c h)
-rates_read place before (w ∷ ws) c =
-    cond_both (is Rate w) (rates_from (place + 1) (before ++ (payload w ∷ [])) ws) (table_judged place before (w ∷ ws)) (λ r. r ≡ Ok c → RatesRead before (w ∷ ws) c)
-    (λ kind h.
-    let r = rates_read (place + 1) (before ++ (payload w ∷ [])) ws c h in
-    record {
-      same_words =
-          ap (λ v. map (word Rate) before ++ (v ∷ ws)) (word-of_kind Rate w kind) ∙ sym (rate_words_push before (payload w) ws) ∙ r.same_words;
-      sound = r.sound;
-    })
-    (λ _. table_then_cues place before (w ∷ ws) c)
-
 -- What is read was written.
 pub written_where_read : (words : List ℕ) (c : Contents) → reading words ≡ Ok c → (words ≡ sheet_words c) × Sound c
-written_where_read [] c = λ h. absurd (fault_is_no_sheet _ c h)
-written_where_read (w ∷ ws) c =
-    cond_both (eqb w 1) (rates_from 1 [] ws) (Err (sheet_word 0 Misplaced)) (λ r. r ≡ Ok c → (w ∷ ws ≡ sheet_words c) × Sound c)
-    (λ edition h.
-    let r = rates_read 1 [] ws c h in
-    (ap (λ v. v ∷ ws) (eqb-true w 1 edition) ∙ ap (λ vs. 1 ∷ vs) r.same_words, r.sound))
-    (λ _ h. absurd (fault_is_no_sheet _ c h))
+written_where_read words c = by-head (head words) refl
+  where
+    by-head : (r : Result Front WordFault) → head words ≡ r → behind_head r ≡ Ok c → (words ≡ sheet_words c) × Sound c
+    by-head (Ok front) is = λ h.
+        let r = table_then_cues (1 + length front.rates) front.rates front.rest c h in
+        ((words_of_head words front is).same_words ∙ ap (λ ws. word Edition 1 ∷ ws) r.same_words, r.sound)
+    by-head (Err fault) is = λ h. absurd (fault_is_no_sheet _ c h)

@@ -1,17 +1,19 @@
 -- The words of a sound sheet are read as that sheet.
-use Rattle.std.proofs.Common.{◌≡◌, ℕ, ◌+◌, ◌^◌, ◌<◌, ◌≤◌, false, List, [], ◌∷◌, ◌++◌, map, length, Some, None, Ok, Option, sym, refl, ap, ◌∙◌, subst, append_assoc, append-nil, arith, length-append}
+use Rattle.std.proofs.Common.{◌≡◌, ℕ, ◌+◌, ◌^◌, ◌<◌, ◌≤◌, false, List, [], ◌∷◌, ◌++◌, length, Some, None, Ok, Option, sym, refl, ap, ◌∙◌, subst, append_assoc, append-nil, arith, length-append}
 use Rattle.std.proofs.ByRecursion.{All-from_get_or}
-use Rattle.std.proofs.lemmas.Bool.{cond-true, cond-false, eq-eqb}
+use Rattle.std.proofs.lemmas.Bool.{cond-true, eq-eqb}
 use Rattle.std.specs.List.{AllByRecursion}
 use Rattle.rates.specs.declared.refusal.TableRefusal.{TableRefusal}
 use Rattle.rates.specs.Judged.{judged, Verdict}
 use Rattle.rates.specs.Lawful.{Lawful}
 use Rattle.rates.proofs.Tables.{verdict}
 use Rattle.words.specs.declared.Kind.TheVariants.{Release, Deadline, Budget, Spent, Rate, End}
-use Rattle.words.specs.Words.{is, payload, word}
+use Rattle.words.specs.Words.{is, begins, payload, word}
 use Rattle.words.proofs.WordParts.{is_word, payload-word}
-use Rattle.sheet.specs.Reading.{Entry, Contents, none, cues_from, rates_from, table_judged, reading, cue_taken}
-use Rattle.sheet.specs.SheetWords.{SoundCue, Sound, cue_words, sheet_words}
+use Rattle.heading.specs.Heading.{Front, WordsOf}
+use Rattle.heading.proofs.Fronts.{head-of_words}
+use Rattle.sheet.specs.Reading.{Entry, Contents, none, cues_from, table_judged, behind_head, reading, cue_taken}
+use Rattle.sheet.specs.SheetWords.{SoundCue, Sound, cue_words, words_behind_table, sheet_words}
 use Rattle.sheet.proofs.CueBounds.{taken_back}
 use Rattle.sheet.proofs.CueWords.{all_read}
 
@@ -50,16 +52,6 @@ cues_back place rates before (e ∷ es) (s, sound) few =
     ∙ subst (λ all. cues_from (place + 4) rates (before ++ (e ∷ [])) none (cue_words es ++ (word End (length all) ∷ [])) ≡ Ok (record { rates = rates; entries = all })) joined
     (cues_back (place + 4) rates (before ++ (e ∷ [])) es sound (subst (λ all. length all ≤ 1024) (sym joined) few))
 
--- The rates are read up to the first word of another kind, where the table is judged.
-rates_back : (place : ℕ) (before rates : List ℕ) (x : ℕ) (left : List ℕ) (c : Contents) → AllByRecursion (λ rate. rate ≤ 4095) rates → is Rate x ≡ false → ((p : ℕ) → table_judged p (before ++ rates) (x ∷ left) ≡ Ok c) → rates_from place before (map (word Rate) rates ++ (x ∷ left)) ≡ Ok c
-rates_back place before [] x left c limited other judge =
-    cond-false _ _ _ other ∙ subst (λ all. table_judged place all (x ∷ left) ≡ Ok c) (append-nil before) (judge place)
-rates_back place before (rate ∷ rates) x left c (low, limited) other judge =
-    let fits : rate < 2 ^ 28 = omega arith in
-    cond-true _ _ _ (is_word Rate Rate rate fits)
-    ∙ ap (λ r. rates_from (place + 1) (before ++ (r ∷ [])) (map (word Rate) rates ++ (x ∷ left))) (payload-word Rate rate fits)
-    ∙ rates_back (place + 1) (before ++ (rate ∷ [])) rates x left c limited other (λ p. subst (λ all. table_judged p all (x ∷ left) ≡ Ok c) (sym (append_assoc before (rate ∷ []) rates)) (judge p))
-
 not-refused_when_lawful : (rates : List ℕ) → Lawful rates → judged rates ≡ None
 not-refused_when_lawful rates lawful = by-verdict (judged rates) refl (verdict rates)
   where
@@ -67,21 +59,28 @@ not-refused_when_lawful rates lawful = by-verdict (judged rates) refl (verdict r
     by-verdict None is right = is
     by-verdict (Some refusal) is wrong = absurd (wrong.1 lawful)
 
-limited_rates : (rates : List ℕ) → Lawful rates → AllByRecursion (λ rate. rate ≤ 4095) rates
-limited_rates rates lawful = All-from_get_or (λ rate. rate ≤ 4095) rates 0 lawful.limited
-
-judged-back : (rates : List ℕ) (entries : List Entry) → Sound (record { rates = rates; entries = entries }) → (p : ℕ) → table_judged p rates (cue_words entries ++ (word End (length entries) ∷ [])) ≡ Ok (record { rates = rates; entries = entries })
-judged-back rates entries sound p =
-    rw (not-refused_when_lawful rates sound.table, table_judged) (cues_back p rates [] entries sound.cues sound.few)
+rates_fit_words : (rates : List ℕ) → Lawful rates → AllByRecursion (λ rate. rate < 2 ^ 28) rates
+rates_fit_words rates lawful = All-from_get_or (λ rate. rate < 2 ^ 28) rates 0 (λ k within. omega (arith, lawful.limited k within))
 
 -- The cues behind the table, or the end, begin with a word that is no rate.
-sheet_back : (rates : List ℕ) (entries : List Entry) → Sound (record { rates = rates; entries = entries }) → rates_from 1 [] (map (word Rate) rates ++ (cue_words entries ++ (word End (length entries) ∷ []))) ≡ Ok (record { rates = rates; entries = entries })
-sheet_back rates [] sound =
-    rates_back 1 [] rates _ _ _ (limited_rates rates sound.table) (is_word Rate End 0 (omega arith)) (judged-back rates [] sound)
-sheet_back rates (e ∷ es) sound =
-    let s : SoundCue e = sound.cues.0 in
-    rates_back 1 [] rates _ _ _ (limited_rates rates sound.table) (is_word Rate Release e.release (omega arith)) (judged-back rates (e ∷ es) sound)
+no_rate_next : (entries : List Entry) → AllByRecursion SoundCue entries → begins Rate (cue_words entries ++ (word End (length entries) ∷ [])) ≡ false
+no_rate_next [] sound = is_word Rate End 0 (omega arith)
+no_rate_next (e ∷ es) (s, sound) = is_word Rate Release e.release (omega arith)
+
+judged-back : (place : ℕ) (rates : List ℕ) (entries : List Entry) → Sound (record { rates = rates; entries = entries }) → table_judged place rates (cue_words entries ++ (word End (length entries) ∷ [])) ≡ Ok (record { rates = rates; entries = entries })
+judged-back place rates [] sound =
+    rw (not-refused_when_lawful rates sound.table, table_judged) (cues_back place rates [] [] sound.cues sound.few)
+judged-back place rates (e ∷ es) sound =
+    rw (not-refused_when_lawful rates sound.table, table_judged) (cues_back place rates [] (e ∷ es) sound.cues sound.few)
 
 -- What a sound sheet writes is read as that sheet.
 pub read_where_written : (words : List ℕ) (c : Contents) → words ≡ sheet_words c → Sound c → reading words ≡ Ok c
-read_where_written words c same sound = ap reading same ∙ sheet_back c.rates c.entries sound
+read_where_written words c same sound =
+    let front : Front = record { rates = c.rates; rest = words_behind_table c } in
+    let written : WordsOf words front =
+    record {
+      same_words = same;
+      rates_fit = rates_fit_words c.rates sound.table;
+      no_more = no_rate_next c.entries sound.cues;
+    } in
+    ap behind_head (head-of_words words front written) ∙ judged-back (1 + length c.rates) c.rates c.entries sound

@@ -1,7 +1,8 @@
 -- How the words of a sheet are read: what they hold, or the fault at the earliest place.
 use Rattle.std.specs.Prelude.{ℕ, ◌+◌, ◌-◌, cond, List, [], ◌∷◌, ◌++◌, length, Some, None, Ok, Err, Result, ◌==◌, nat_lt}
-use Rattle.words.specs.declared.Kind.TheVariants.{Release, Deadline, Budget, Spent, Rate, End}
+use Rattle.words.specs.declared.Kind.TheVariants.{Release, Deadline, Budget, Spent, End}
 use Rattle.words.specs.Words.{is, payload}
+use Rattle.heading.specs.Heading.{Front, head}
 use Rattle.rates.specs.Judged.{judged}
 use Rattle.cues.specs.Cues.{cue_refusal}
 use Rattle.words.specs.declared.fault.WordFault.{WordFault}
@@ -79,15 +80,15 @@ cues_from place rates before (budgeted r d b) (w ∷ ws) =
 
 -- The table is judged once a word of another kind follows its last rate.
 abbrev pub table_judged : ℕ → List ℕ → List ℕ → Reading
-table_judged place rates ws = elim (judged rates) [ Some refusal ↦ Err (BadTable refusal) | None ↦ cues_from place rates [] none ws ]
+table_judged place rates [] = Err (sheet_word place EndsEarly)
+table_judged place rates (w ∷ ws) =
+    elim (judged rates) [ Some refusal ↦ Err (BadTable refusal) | None ↦ cues_from place rates [] none (w ∷ ws) ]
 
--- The words from a place in the table on, after the rates before it.
-abbrev pub rates_from : ℕ → List ℕ → List ℕ → Reading
-rates_from place before [] = Err (sheet_word place EndsEarly)
-rates_from place before (w ∷ ws) =
-    cond (is Rate w) (rates_from (place + 1) (before ++ (payload w ∷ [])) ws) (table_judged place before (w ∷ ws))
+-- What is read behind the head: the table, the cues and the end.
+abbrev pub behind_head : Result Front WordFault → Reading
+behind_head (Ok front) = table_judged (1 + length front.rates) front.rates front.rest
+behind_head (Err fault) = Err (sheet_word 0 fault)
 
 -- The words of a whole sheet: the edition, the table, the cues and the end.
 abbrev pub reading : List ℕ → Reading
-reading [] = Err (sheet_word 0 EndsEarly)
-reading (w ∷ ws) = cond (w == 1) (rates_from 1 [] ws) (Err (sheet_word 0 Misplaced))
+reading words = behind_head (head words)

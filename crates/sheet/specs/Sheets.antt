@@ -1,6 +1,6 @@
 -- Sheets that were read or admitted, and the answers of reading and admitting.
-use Rattle.std.specs.Prelude.{◌≡◌, ℕ, ◌+◌, ◌*◌, ◌%◌, ◌≤◌, cond, List, length, Ok, Err, Result, ◌==◌}
-use Rattle.words.specs.Words.{whole}
+use Rattle.std.specs.Prelude.{◌≡◌, ℕ, ◌+◌, ◌*◌, ◌≤◌, List, length, Ok, Err, Result}
+use Rattle.words.specs.Bytes.{read_bytes}
 use Rattle.rates.specs.Table.{rates_of}
 use Rattle.cues.specs.Demand.{Job}
 use Rattle.cues.specs.Cues.{jobs_of}
@@ -42,12 +42,8 @@ Placed words (Err (Fault f)) = fault_place f ≤ length words
 Placed words (Err NoMemory) = Unit {0}
 
 -- Bytes read as their whole words do; but where some are left over, a sheet ends early there.
-abbrev pub left_over : ℕ → ℕ → Reading → Reading
-left_over bytes words (Ok c) = cond (bytes % 4 == 0) (Ok c) (Err (sheet_word words EndsEarly))
-left_over bytes words (Err f) = Err f
-
 abbrev pub reading_bytes : List ℕ → Reading
-reading_bytes bytes = left_over (length bytes) (length (whole bytes)) (reading (whole bytes))
+reading_bytes bytes = read_bytes reading (λ words. sheet_word words EndsEarly) bytes
 
 abbrev pub ReadBytesAs : List ℕ → Result ReadSheet ReadError → Type 0
 ReadBytesAs bytes r = Told (reading_bytes bytes) r

@@ -8,6 +8,7 @@ ghost use Rattle.words.specs.Words.{number, is, payload, whole};
 use std::alloc::{AllocError, Global};
 
 pub mod fault;
+pub mod unread;
 
 /// What a word says, by its top four bits.
 #[derive(Clone, Copy, PartialEq, Eq, Debug)]
@@ -44,6 +45,7 @@ pub const PAYLOAD_MAX: u32 = 0x0fff_ffff;
 pub fn kind_of(word: u32) -> Kind
     ensures { number result ≡ word / 2 ^ 28 }
 {
+    // No derive reads a number as a variant, and a table of the kinds by their numbers would be no shorter.
     match word / 0x1000_0000 {
         0 => Kind::Edition,
         1 => Kind::Release,
@@ -82,11 +84,10 @@ pub fn payload_of(word: u32) -> u32
 pub fn words_of(heap: Global, bytes: &[u8]) -> Result<Vec<u32>, AllocError>
     ensures { IfOk result (λ words. words.items ≡ whole bytes.now) }
 {
-    let mut words = Vec::new(heap);
-    let mut left = bytes;
-    while let [a, b, c, d, rest @ ..] = left {
-        words.push(u32::from_be_bytes([*a, *b, *c, *d]))?;
-        left = rest;
-    }
+    let (chunks, _) = bytes.as_chunks::<4>();
+    let words: Vec<u32> = chunks
+        .iter()
+        .map(|chunk| u32::from_be_bytes(*chunk))
+        .collect(heap)?;
     Ok(words)
 }
