@@ -1,6 +1,3 @@
-mod PartSteps
-mod RateSteps
-mod CallSteps
 mod ReadBack
 mod WriteBack
 mod WhatWasWritten

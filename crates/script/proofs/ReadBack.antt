@@ -1,15 +1,17 @@
 -- Words that are read as a script are the words of that script.
-use Rattle.std.proofs.Common.{◌≡◌, ℕ, ◌+◌, ◌^◌, ◌<◌, ◌≤◌, min, true, eqb, leb, List, [], ◌∷◌, ◌++◌, map, length, replicate, Some, None, Ok, Err, Option, sym, refl, ap, ◌∙◌, subst, append_assoc, mod-lt, arith}
-use Rattle.std.proofs.ByRecursion.{All-push}
-use Rattle.std.proofs.lemmas.List.{map-append, append-nil}
+use Rattle.std.proofs.Common.{◌≡◌, ℕ, ◌+◌, ◌^◌, ◌<◌, ◌≤◌, min, true, eqb, leb, List, [], ◌∷◌, ◌++◌, map, length, replicate, Some, None, Ok, Err, Option, Result, sym, refl, ap, ◌∙◌, subst, append_assoc, arith}
+use Rattle.std.proofs.lemmas.List.{append-nil}
 use Rattle.std.proofs.lemmas.Bool.{cond_both, eqb-true, leb-true}
 use Rattle.std.specs.List.{AllByRecursion}
-use Rattle.words.specs.declared.Kind.TheVariants.{Deadline, Budget, Spent, Rate, End}
+use Rattle.words.specs.declared.Kind.TheVariants.{Edition, Deadline, Budget, Spent, Rate, End}
 use Rattle.words.specs.Words.{is, payload, word}
-use Rattle.words.proofs.WordParts.{word-of_kind}
+use Rattle.words.proofs.WordParts.{word-of_kind, payload-fits}
+use Rattle.words.specs.declared.fault.WordFault.{WordFault}
+use Rattle.heading.specs.Heading.{Front, head}
+use Rattle.heading.proofs.Fronts.{words_of_head}
 use Rattle.calls.specs.declared.call.Call.{Call}
 use Rattle.calls.specs.declared.call.Call.TheVariants.{Release, Tick}
-use Rattle.script.specs.Reading.{Contents, Reading, tape_from, calls_from, rates_from, reading}
+use Rattle.script.specs.Reading.{Contents, Reading, tape_from, calls_from, behind_head, reading}
 use Rattle.script.specs.ScriptWords.{Item, a_release, some_ticks, item_calls, ticks_in, FitsWords, words_behind_rates, WordsOf}
 
 -- The words that are left, behind the rates and the calls before with so many ticks, are some items, the end and the tape.
@@ -33,9 +35,6 @@ DueFits (Some deadline) = deadline < 2 ^ 28
 
 pub wrong-is_no_script : (place : ℕ) (c : Contents) → ◌≡◌ {A = Reading} (Err place) (Ok c) → ⊥
 wrong-is_no_script place c h = let z : ◌≡◌ {A = ℕ} 0 1 = cc in omega arith
-
-payload-fits : (w : ℕ) → payload w < 2 ^ 28
-payload-fits w = mod-lt w (omega arith)
 
 same_contents : (a b : Contents) → ◌≡◌ {A = Reading} (Ok a) (Ok b) → a ≡ b
 same_contents a b h = cc
@@ -101,62 +100,24 @@ calls_read place rates before ticks (Some deadline) (w ∷ ws) c fits =
     (λ kind h. subst (λ v. CallsRead rates before ticks (word Deadline deadline ∷ (v ∷ ws)) c) (sym (word-of_kind Budget w kind)) (release_in_front rates before ticks deadline (payload w) ws c fits (payload-fits w) (calls_read (place + 1) rates (before ++ (Release deadline (payload w) ∷ [])) ticks None ws c tt h)))
     (λ _ h. absurd (wrong-is_no_script _ c h))
 
--- The rates before and the words that are left make up the rates, the items, the end and the tape.
-record RatesRead (before left : List ℕ) (c : Contents) : Type 0 where
-  items : List Item
-  same_words : map (word Rate) before ++ left ≡ map (word Rate) c.rates ++ words_behind_rates items c.tape
-  same_calls : c.calls ≡ item_calls items
-  rates_fit : AllByRecursion (λ rate. rate < 2 ^ 28) before → AllByRecursion (λ rate. rate < 2 ^ 28) c.rates
-  items_fit : AllByRecursion FitsWords items
-  tape_fits : length c.tape < 2 ^ 28
-  few_ticks : ticks_in items ≤ 1000000
-
-rates_then_calls : (rates ws : List ℕ) (c : Contents) → CallsRead rates [] 0 ws c → RatesRead rates ws c
-rates_then_calls rates ws c r =
-    record {
-      items = r.items;
-      same_words = ap (λ rs. map (word Rate) rs ++ ws) (sym r.same_rates) ∙ ap (λ left. map (word Rate) c.rates ++ left) r.same_words;
-      same_calls = r.same_calls;
-      rates_fit = subst (λ rs. AllByRecursion (λ rate. rate < 2 ^ 28) rates → AllByRecursion (λ rate. rate < 2 ^ 28) rs) (sym r.same_rates) (λ fit. fit);
-      items_fit = r.items_fit;
-      tape_fits = r.tape_fits;
-      few_ticks = omega (arith, r.few_ticks (omega arith));
-    }
-
-rate_words_push : (before : List ℕ) (rate : ℕ) (left : List ℕ) → map (word Rate) (before ++ (rate ∷ [])) ++ left ≡ map (word Rate) before ++ (word Rate rate ∷ left)
-rate_words_push before rate left = ap (λ ws. ws ++ left) (map-append (word Rate) before (rate ∷ [])) ∙ append_assoc (map (word Rate) before) (word Rate rate ∷ []) left
-
-rates_read : (place : ℕ) (before ws : List ℕ) (c : Contents) → rates_from place before ws ≡ Ok c → RatesRead before ws c
-rates_read place before [] c = λ h. absurd (wrong-is_no_script _ c h)
-rates_read place before (w ∷ ws) c =
-    cond_both (is Rate w) (rates_from (place + 1) (before ++ (payload w ∷ [])) ws) (calls_from place before [] 0 None (w ∷ ws)) (λ r. r ≡ Ok c → RatesRead before (w ∷ ws) c)
-    (λ kind h.
-    let r = rates_read (place + 1) (before ++ (payload w ∷ [])) ws c h in
-    record {
-      items = r.items;
-      same_words = ap (λ v. map (word Rate) before ++ (v ∷ ws)) (word-of_kind Rate w kind) ∙ sym (rate_words_push before (payload w) ws) ∙ r.same_words;
-      same_calls = r.same_calls;
-      rates_fit = λ fit. r.rates_fit (All-push (λ rate. rate < 2 ^ 28) before (payload w) fit (payload-fits w));
-      items_fit = r.items_fit;
-      tape_fits = r.tape_fits;
-      few_ticks = r.few_ticks;
-    })
-    (λ _ h. rates_then_calls before (w ∷ ws) c (calls_read place before [] 0 None (w ∷ ws) c tt h))
-
 -- What is read was written.
 pub written_where_read : (words : List ℕ) (c : Contents) → reading words ≡ Ok c → WordsOf words c
-written_where_read [] c = λ h. absurd (wrong-is_no_script _ c h)
-written_where_read (w ∷ ws) c =
-    cond_both (eqb w 1) (rates_from 1 [] ws) (Err 0) (λ r. r ≡ Ok c → WordsOf (w ∷ ws) c)
-    (λ edition h.
-    let r = rates_read 1 [] ws c h in
-    record {
-      items = r.items;
-      same_words = ap (λ v. v ∷ ws) (eqb-true w 1 edition) ∙ ap (λ vs. 1 ∷ vs) r.same_words;
-      same_calls = r.same_calls;
-      rates_fit = r.rates_fit tt;
-      items_fit = r.items_fit;
-      tape_fits = r.tape_fits;
-      few_ticks = r.few_ticks;
-    })
-    (λ _ h. absurd (wrong-is_no_script _ c h))
+written_where_read words c = by-head (head words) refl
+  where
+    by-head : (r : Result Front WordFault) → head words ≡ r → behind_head r ≡ Ok c → WordsOf words c
+    by-head (Ok front) same = λ h.
+        let w = words_of_head words front same in
+        let r = calls_read (1 + length front.rates) front.rates [] 0 None front.rest c tt h in
+        record {
+          items = r.items;
+          same_words =
+              w.same_words
+              ∙ ap (λ rs. word Edition 1 ∷ (map (word Rate) rs ++ front.rest)) (sym r.same_rates)
+              ∙ ap (λ ws. word Edition 1 ∷ (map (word Rate) c.rates ++ ws)) r.same_words;
+          same_calls = r.same_calls;
+          rates_fit = subst (AllByRecursion (λ rate. rate < 2 ^ 28)) (sym r.same_rates) w.rates_fit;
+          items_fit = r.items_fit;
+          tape_fits = r.tape_fits;
+          few_ticks = omega (arith, r.few_ticks (omega arith));
+        }
+    by-head (Err fault) same = λ h. absurd (wrong-is_no_script _ c h)

@@ -1,14 +1,16 @@
 -- The words of a script are read as that script.
-use Rattle.std.proofs.Common.{◌≡◌, ℕ, ◌+◌, ◌^◌, ◌<◌, ◌≤◌, false, List, [], ◌∷◌, ◌++◌, map, length, replicate, None, Ok, sym, refl, ap, ◌∙◌, subst, append_assoc, arith}
+use Rattle.std.proofs.Common.{◌≡◌, ℕ, ◌+◌, ◌^◌, ◌<◌, ◌≤◌, false, List, [], ◌∷◌, ◌++◌, length, replicate, None, Ok, sym, refl, ap, ◌∙◌, subst, append_assoc, arith}
 use Rattle.std.proofs.lemmas.List.{append-nil}
 use Rattle.std.proofs.lemmas.Bool.{cond-true, cond-false, eq-eqb, le-leb}
 use Rattle.std.specs.List.{AllByRecursion}
 use Rattle.words.specs.declared.Kind.TheVariants.{Deadline, Budget, Spent, Rate, End}
-use Rattle.words.specs.Words.{is, payload, word}
+use Rattle.words.specs.Words.{begins, payload, word}
 use Rattle.words.proofs.WordParts.{is_word, payload-word}
+use Rattle.heading.specs.Heading.{Front, WordsOf as head_words}
+use Rattle.heading.proofs.Fronts.{head-of_words}
 use Rattle.calls.specs.declared.call.Call.{Call}
 use Rattle.calls.specs.declared.call.Call.TheVariants.{Release, Tick}
-use Rattle.script.specs.Reading.{Contents, tape_from, calls_from, rates_from, reading}
+use Rattle.script.specs.Reading.{Contents, tape_from, calls_from, behind_head, reading}
 use Rattle.script.specs.ScriptWords.{Item, a_release, some_ticks, item_calls, ticks_in, FitsWords, words_behind_rates, WordsOf}
 
 tape_back : (place : ℕ) (rates : List ℕ) (calls : List Call) (tape : List ℕ) → tape_from place (length tape) rates calls tape ≡ Ok (record { rates = rates; calls = calls; tape = tape })
@@ -49,27 +51,22 @@ calls_back place rates before ticks (some_ticks count ∷ items) tape (fits, fit
     ∙ calls_back (place + 1) rates (before ++ replicate count Tick) (ticks + count) items tape fit tape_fits (omega arith)
     ∙ ap (λ calls. Ok (record { rates = rates; calls = calls; tape = tape })) (append_assoc before (replicate count Tick) (item_calls items))
 
--- The rates are read up to the first word of another kind.
-rates_back : (place : ℕ) (before rates : List ℕ) (x : ℕ) (left : List ℕ) (c : Contents) → AllByRecursion (λ rate. rate < 2 ^ 28) rates → is Rate x ≡ false → ((p : ℕ) → calls_from p (before ++ rates) [] 0 None (x ∷ left) ≡ Ok c) → rates_from place before (map (word Rate) rates ++ (x ∷ left)) ≡ Ok c
-rates_back place before [] x left c fit other behind =
-    cond-false _ _ _ other ∙ subst (λ all. calls_from place all [] 0 None (x ∷ left) ≡ Ok c) (append-nil before) (behind place)
-rates_back place before (rate ∷ rates) x left c (fits, fit) other behind =
-    cond-true _ _ _ (is_word Rate Rate rate fits)
-    ∙ ap (λ r. rates_from (place + 1) (before ++ (r ∷ [])) (map (word Rate) rates ++ (x ∷ left))) (payload-word Rate rate fits)
-    ∙ rates_back (place + 1) (before ++ (rate ∷ [])) rates x left c fit other (λ p. subst (λ all. calls_from p all [] 0 None (x ∷ left) ≡ Ok c) (sym (append_assoc before (rate ∷ []) rates)) (behind p))
-
 -- The items, or the end, begin with a word that is no rate.
-script_back : (rates tape : List ℕ) (items : List Item) → AllByRecursion (λ rate. rate < 2 ^ 28) rates → AllByRecursion FitsWords items → length tape < 2 ^ 28 → ticks_in items ≤ 1000000 → rates_from 1 [] (map (word Rate) rates ++ words_behind_rates items tape) ≡ Ok (record { rates = rates; calls = item_calls items; tape = tape })
-script_back rates tape [] r-fit fit t-fits few =
-    rates_back 1 [] rates _ _ _ r-fit (is_word Rate End (length tape) t-fits) (λ p. calls_back p rates [] 0 [] tape fit t-fits (omega arith))
-script_back rates tape (a_release deadline budget ∷ items) r-fit ((d-fits, b-fits), fit) t-fits few =
-    rates_back 1 [] rates _ _ _ r-fit (is_word Rate Deadline deadline d-fits) (λ p. calls_back p rates [] 0 (a_release deadline budget ∷ items) tape ((d-fits, b-fits), fit) t-fits (omega arith))
-script_back rates tape (some_ticks count ∷ items) r-fit (fits, fit) t-fits few =
-    rates_back 1 [] rates _ _ _ r-fit (is_word Rate Spent count fits) (λ p. calls_back p rates [] 0 (some_ticks count ∷ items) tape (fits, fit) t-fits (omega arith))
+no_rate_next : (items : List Item) (tape : List ℕ) → AllByRecursion FitsWords items → length tape < 2 ^ 28 → begins Rate (words_behind_rates items tape) ≡ false
+no_rate_next [] tape fit t-fits = is_word Rate End (length tape) t-fits
+no_rate_next (a_release deadline budget ∷ items) tape ((d-fits, b-fits), fit) t-fits = is_word Rate Deadline deadline d-fits
+no_rate_next (some_ticks count ∷ items) tape (fits, fit) t-fits = is_word Rate Spent count fits
 
 -- What a script writes is read as that script.
 pub read_where_written : (words : List ℕ) (c : Contents) → WordsOf words c → reading words ≡ Ok c
 read_where_written words c w =
-    ap reading w.same_words
-    ∙ script_back c.rates c.tape w.items w.rates_fit w.items_fit w.tape_fits w.few_ticks
+    let front : Front = record { rates = c.rates; rest = words_behind_rates w.items c.tape } in
+    let written : head_words words front =
+    record {
+      same_words = w.same_words;
+      rates_fit = w.rates_fit;
+      no_more = no_rate_next w.items c.tape w.items_fit w.tape_fits;
+    } in
+    ap behind_head (head-of_words words front written)
+    ∙ calls_back (1 + length c.rates) c.rates [] 0 w.items c.tape w.items_fit w.tape_fits (omega (arith, w.few_ticks))
     ∙ ap (λ calls. Ok (record { rates = c.rates; calls = calls; tape = c.tape })) (sym w.same_calls)

@@ -1,7 +1,9 @@
 -- How a script is read: what it holds, or the place of its first wrong or missing word.
 use Rattle.std.specs.Prelude.{ℕ, ◌+◌, min, cond, List, [], ◌∷◌, ◌++◌, length, replicate, Some, None, Ok, Err, Option, Result, ◌==◌, nat_le}
-use Rattle.words.specs.declared.Kind.TheVariants.{Deadline, Budget, Spent, Rate, End}
+use Rattle.words.specs.declared.Kind.TheVariants.{Deadline, Budget, Spent, End}
 use Rattle.words.specs.Words.{is, payload}
+use Rattle.words.specs.declared.fault.WordFault.{WordFault}
+use Rattle.heading.specs.Heading.{Front, head}
 use Rattle.calls.specs.declared.call.Call.{Call}
 use Rattle.calls.specs.declared.call.Call.TheVariants.{Release, Tick}
 
@@ -32,13 +34,11 @@ calls_from place rates before ticks None (w ∷ ws) =
 calls_from place rates before ticks (Some deadline) (w ∷ ws) =
     cond (is Budget w) (calls_from (place + 1) rates (before ++ (Release deadline (payload w) ∷ [])) ticks None ws) (Err place)
 
--- The words from a place in the rates on, after the rates before it; the calls begin at the first word of another kind.
-abbrev pub rates_from : ℕ → List ℕ → List ℕ → Reading
-rates_from place before [] = Err place
-rates_from place before (w ∷ ws) =
-    cond (is Rate w) (rates_from (place + 1) (before ++ (payload w ∷ [])) ws) (calls_from place before [] 0 None (w ∷ ws))
+-- What is read behind the head: the calls, which begin at the first word that is no rate, the end and the tape.
+abbrev pub behind_head : Result Front WordFault → Reading
+behind_head (Ok front) = calls_from (1 + length front.rates) front.rates [] 0 None front.rest
+behind_head (Err fault) = Err 0
 
 -- The words of a whole script: the edition, the rates, the calls, the end and the tape.
 abbrev pub reading : List ℕ → Reading
-reading [] = Err 0
-reading (w ∷ ws) = cond (w == 1) (rates_from 1 [] ws) (Err 0)
+reading words = behind_head (head words)

@@ -53,6 +53,12 @@ pub record WordsOf (words : List ℕ) (c : Contents) : Type 0 where
   pub tape_fits : length c.tape < 2 ^ 28
   pub few_ticks : ticks_in items ≤ 1000000
 
+-- Words are read exactly where they are the words of a script, and then as that script; refused words are those of none.
+abbrev pub Written : List ℕ → Result Script ScriptError → Type 0
+Written words (Ok script) = WordsOf words (contents script)
+Written words (Err (WrongWord place)) = (c : Contents) → WordsOf words c → ⊥
+Written words (Err NoMemory) = Unit {0}
+
 -- Bytes are read exactly where they are the words of a script, four bytes a word and none left over, and then as that
 -- script; refused bytes are those of none.
 abbrev pub WrittenBytes : List ℕ → Result Script ScriptError → Type 0

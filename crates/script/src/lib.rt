@@ -3,15 +3,18 @@
 //! The end word counts the words of the answer tape, which follow it and are the last.
 #![tactic(auto)]
 
-ghost use Rattle.std.specs.Prelude.{◌≡◌, ◌+◌, ◌^◌, ◌<◌, ◌≤◌, ◌++◌, length, replicate, IfOk, Ok, Err};
+ghost use Rattle.std.specs.Prelude.{◌≡◌, ◌≤◌, ◌++◌, replicate, Ok, Err};
 ghost use Rattle.calls.specs.declared.call.Call.TheVariants.{Tick};
 ghost use Rattle.script.specs.declared.ScriptError.TheVariants.{NoMemory};
-ghost use Rattle.script.specs.Parts.{After, WrongAt, Tape, Calls, Rates};
+ghost use Rattle.script.specs.Parts.{After, WrongAt, Tape, Calls, not_headed};
 ghost use Rattle.script.specs.Scripts.{ReadAs, ReadBytesAs};
-ghost use Rattle.script.specs.ScriptWords.{WrittenBytes};
+ghost use Rattle.script.specs.ScriptWords.{Written, WrittenBytes};
 
 use calls::call::Call;
+use heading::{HeadError, read_head};
 use std::alloc::{AllocError, AllocFailed, Global};
+use std::iter::repeat_n;
+use words::unread::Unread;
 use words::{Kind, is_kind, payload_of, words_of};
 
 /// The most ticks that a script may ask for.
@@ -52,6 +55,17 @@ impl<T: Drop> From<AllocFailed<T>> for ScriptError {
     }
 }
 
+impl From<HeadError> for ScriptError {
+    ghost from_gives = { λ error r. r ≡ not_headed error };
+
+    fn from(error: HeadError) -> ScriptError {
+        match error {
+            HeadError::FirstWord(_) => ScriptError::WrongWord { place: 0 },
+            HeadError::NoMemory => ScriptError::NoMemory,
+        }
+    }
+}
+
 /// One part of the calls.
 #[derive(Clone, Copy)]
 enum Part {
@@ -62,102 +76,75 @@ enum Part {
     End(u32),
 }
 
-/// The next part of the calls and the words behind it, or the place of the first wrong or missing word. The word at
-/// `place` is the first of `left`, and so many ticks came before.
-fn next_part(left: &[u32], place: usize, ticks: u32) -> Result<(Part, &[u32]), ScriptError>
-    requires { (place + length left.now < 2 ^ 64) × (ticks ≤ 1000000) }
-    ensures { elim result [ Ok p ↦ After place ticks left.now p.0 p.1.now | Err e ↦ WrongAt place ticks left.now e ] }
+/// The next part of the calls and what is left behind it, or the place of the first wrong or missing word. So many
+/// ticks came before.
+fn next_part(left: Unread<'_>, ticks: u32) -> Result<(Part, Unread<'_>), ScriptError>
+    requires { ticks ≤ 1000000 }
+    ensures { elim result [ Ok p ↦ After left.entry.place ticks left.entry.words.now p.0 p.1.place p.1.words.now | Err e ↦ WrongAt left.entry.place ticks left.entry.words.now e ] }
 {
-    match left {
-        [end, tape @ ..] if is_kind(*end, Kind::End) => Ok((Part::End(payload_of(*end)), tape)),
-        [count, rest @ ..] if is_kind(*count, Kind::Spent) => {
+    let place = match left.words() {
+        [end, ..] if is_kind(*end, Kind::End) => {
+            return Ok((Part::End(payload_of(*end)), left.behind(1)));
+        }
+        [count, ..] if is_kind(*count, Kind::Spent) => {
             let count = payload_of(*count);
             if count > MOST_TICKS - ticks {
-                return Err(ScriptError::WrongWord { place });
+                return Err(ScriptError::WrongWord {
+                    place: left.place(),
+                });
             }
-            Ok((Part::Ticks(count), rest))
+            return Ok((Part::Ticks(count), left.behind(1)));
         }
-        [deadline, ..] if !is_kind(*deadline, Kind::Deadline) => Err(ScriptError::WrongWord {
-            place,
-        }),
-        [_, budget, ..] if !is_kind(*budget, Kind::Budget) => Err(ScriptError::WrongWord {
-            place: place + 1,
-        }),
-        [deadline, budget, rest @ ..] => {
+        [deadline, ..] if !is_kind(*deadline, Kind::Deadline) => left.place(),
+        [_, budget, ..] if !is_kind(*budget, Kind::Budget) => left.nth_place(1),
+        [deadline, budget, ..] => {
             let deadline = payload_of(*deadline);
             let budget = payload_of(*budget);
-            Ok((Part::Release { deadline, budget }, rest))
+            return Ok((Part::Release { deadline, budget }, left.behind(2)));
         }
-        _ => Err(ScriptError::WrongWord {
-            place: place + left.len(),
-        }),
-    }
+        _ => left.end(),
+    };
+    Err(ScriptError::WrongWord { place })
 }
 
 /// Adds ticks behind the calls.
 fn push_ticks(calls: &mut Vec<Call>, count: u32) -> Result<(), ScriptError>
     ensures { elim result [ Ok done ↦ calls.new.items ≡ calls.old.items ++ replicate count Tick | Err e ↦ e ≡ NoMemory ] }
 {
-    for _ in 0..count {
-        calls.push(Call::Tick)?;
-    }
+    calls.extend(repeat_n(Call::Tick, count as usize))?;
     Ok(())
 }
 
-/// The tape, whose first word stands at `place`, exactly as long as the end word counts.
-fn read_tape(heap: Global, words: &[u32], count: u32, place: usize) -> Result<Vec<u32>, ScriptError>
-    requires { place + length words.now < 2 ^ 64 }
-    ensures { Tape place count words.now result }
+/// The tape, exactly as long as the end word counts.
+fn read_tape(heap: Global, tape: Unread<'_>, count: u32) -> Result<Vec<u32>, ScriptError>
+    ensures { Tape tape.entry.place count tape.entry.words.now result }
 {
-    if words.len() != count as usize {
-        let place = place + words.len().min(count as usize);
+    if tape.words().len() != count as usize {
+        let place = tape.nth_place(count as usize);
         return Err(ScriptError::WrongWord { place });
     }
-    Ok(words.to_vec(heap)?)
+    Ok(tape.words().to_vec(heap)?)
 }
 
-/// The rates at the front of the words behind the edition, and the words behind them.
-fn read_rates(heap: Global, words: &[u32]) -> Result<(Vec<u32>, &[u32]), AllocError>
-    ensures { IfOk result (λ p. Rates words.now p.0.items p.1.now) }
-{
-    let mut rates = Vec::new(heap);
-    let mut left = words;
-    while let [rate, rest @ ..] = left
-        && is_kind(*rate, Kind::Rate)
-    {
-        rates.push(payload_of(*rate))?;
-        left = rest;
-    }
-    Ok((rates, left))
-}
-
-/// The calls and the tape behind them. The word at `first` is the first of `words`.
-fn read_calls(
-    heap: Global,
-    words: &[u32],
-    first: usize,
-) -> Result<(Vec<Call>, Vec<u32>), ScriptError>
-    requires { first + length words.now < 2 ^ 64 }
-    ensures { Calls first words.now result }
+/// The calls and the tape behind them.
+fn read_calls(heap: Global, first: Unread<'_>) -> Result<(Vec<Call>, Vec<u32>), ScriptError>
+    ensures { Calls first.entry.place first.entry.words.now result }
 {
     let mut calls = Vec::new(heap);
     let mut ticks = 0;
-    let mut left = words;
-    let mut place = first;
+    let mut left = first;
     loop {
-        let (part, rest) = next_part(left, place, ticks)?;
+        let (part, rest) = next_part(left, ticks)?;
         match part {
             Part::Release { deadline, budget } => {
                 calls.push(Call::Release { deadline, budget })?;
-                place += 2;
             }
             Part::Ticks(count) => {
                 push_ticks(&mut calls, count)?;
                 ticks += count;
-                place += 1;
             }
             Part::End(count) => {
-                let tape = read_tape(heap, rest, count, place + 1)?;
+                let tape = read_tape(heap, rest, count)?;
                 return Ok((calls, tape));
             }
         }
@@ -167,14 +154,16 @@ fn read_calls(
 
 /// The script that the words are.
 fn read_words(heap: Global, words: &[u32]) -> Result<Script, ScriptError>
-    ensures { ReadAs words.now result }
+    ensures read { ReadAs words.now result }
+    ensures written { Written words.now result }
 {
-    let [1, behind @ ..] = words else {
-        return Err(ScriptError::WrongWord { place: 0 });
-    };
-    let (rates, left) = read_rates(heap, behind)?;
-    let (calls, tape) = read_calls(heap, left, 1 + rates.len())?;
-    Ok(Script { rates, calls, tape })
+    let head = read_head(heap, words)?;
+    let (calls, tape) = read_calls(heap, head.rest)?;
+    Ok(Script {
+        rates: head.rates,
+        calls,
+        tape,
+    })
 }
 
 /// Reads the bytes of a script, four to a word. A last word that is cut short is missing.

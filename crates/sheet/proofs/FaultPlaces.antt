@@ -66,8 +66,8 @@ reading-upto : (words : List ℕ) → Upto (length words) (reading words)
 reading-upto words = by-head (head words) refl
   where
     by-head : (r : Result Front WordFault) → head words ≡ r → Upto (length words) (behind_head r)
-    by-head (Ok front) is = subst (λ n. Upto n (behind_head (Ok front))) (head-counts words front is) (judged-upto (1 + length front.rates) front.rates front.rest (omega arith))
-    by-head (Err fault) is = omega arith
+    by-head (Ok front) same = subst (λ n. Upto n (behind_head (Ok front))) (head-counts words front same) (judged-upto (1 + length front.rates) front.rates front.rest (omega arith))
+    by-head (Err fault) same = omega arith
 
 pub placed_by_answer : (words : List ℕ) (r : Result ReadSheet ReadError) → ReadAs words r → Placed words r
 placed_by_answer words (Ok sheet) h = tt

@@ -1,4 +1,3 @@
-mod CueWords
 mod CueBounds
 mod ReadBack
 mod WriteBack

@@ -123,7 +123,7 @@ pub written_where_read : (words : List ℕ) (c : Contents) → reading words ≡
 written_where_read words c = by-head (head words) refl
   where
     by-head : (r : Result Front WordFault) → head words ≡ r → behind_head r ≡ Ok c → (words ≡ sheet_words c) × Sound c
-    by-head (Ok front) is = λ h.
+    by-head (Ok front) same = λ h.
         let r = table_then_cues (1 + length front.rates) front.rates front.rest c h in
-        ((words_of_head words front is).same_words ∙ ap (λ ws. word Edition 1 ∷ ws) r.same_words, r.sound)
-    by-head (Err fault) is = λ h. absurd (fault_is_no_sheet _ c h)
+        ((words_of_head words front same).same_words ∙ ap (λ ws. word Edition 1 ∷ ws) r.same_words, r.sound)
+    by-head (Err fault) same = λ h. absurd (fault_is_no_sheet _ c h)

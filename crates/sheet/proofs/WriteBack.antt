@@ -1,5 +1,5 @@
 -- The words of a sound sheet are read as that sheet.
-use Rattle.std.proofs.Common.{◌≡◌, ℕ, ◌+◌, ◌^◌, ◌<◌, ◌≤◌, false, List, [], ◌∷◌, ◌++◌, length, Some, None, Ok, Option, sym, refl, ap, ◌∙◌, subst, append_assoc, append-nil, arith, length-append}
+use Rattle.std.proofs.Common.{◌≡◌, ℕ, ◌+◌, ◌-◌, true, ◌^◌, ◌<◌, ◌≤◌, false, List, [], ◌∷◌, ◌++◌, length, Some, None, Ok, Option, sym, refl, ap, ◌∙◌, subst, append_assoc, append-nil, arith, length-append}
 use Rattle.std.proofs.ByRecursion.{All-from_get_or}
 use Rattle.std.proofs.lemmas.Bool.{cond-true, eq-eqb}
 use Rattle.std.specs.List.{AllByRecursion}
@@ -13,9 +13,9 @@ use Rattle.words.proofs.WordParts.{is_word, payload-word}
 use Rattle.heading.specs.Heading.{Front, WordsOf}
 use Rattle.heading.proofs.Fronts.{head-of_words}
 use Rattle.sheet.specs.Reading.{Entry, Contents, none, cues_from, table_judged, behind_head, reading, cue_taken}
+use Rattle.sheet.specs.Parts.{after_words}
 use Rattle.sheet.specs.SheetWords.{SoundCue, Sound, cue_words, words_behind_table, sheet_words}
 use Rattle.sheet.proofs.CueBounds.{taken_back}
-use Rattle.sheet.proofs.CueWords.{all_read}
 
 end_back : (place : ℕ) (rates : List ℕ) (before : List Entry) → length before ≤ 1024 → cues_from place rates before none (word End (length before) ∷ []) ≡ Ok (record { rates = rates; entries = before })
 end_back place rates before few =
@@ -31,14 +31,21 @@ same_entry e s =
     let a = payload-word Spent e.actual s.fits in
     rw (r, d, b, a)
 
+-- Four words of the right kinds are the numbers of a cue.
+four_read : (place : ℕ) (rates : List ℕ) (before : List Entry) (a b c f : ℕ) (ws : List ℕ) → is End a ≡ false → is Release a ≡ true → is Deadline b ≡ true → is Budget c ≡ true → is Spent f ≡ true → cues_from place rates before none (a ∷ (b ∷ (c ∷ (f ∷ ws)))) ≡ after_words place rates before (a ∷ (b ∷ (c ∷ (f ∷ ws)))) (Ok (payload a, payload b, payload c, payload f))
+four_read place rates before a b c f ws e r d u s =
+    let first : place + 1 + 1 + 1 - 3 ≡ place = omega arith in
+    let next : place + 1 + 1 + 1 + 1 ≡ place + 4 = omega arith in
+    rw (e, r) (rw d (rw u (rw (s, first, next))))
+
 cue_back : (place : ℕ) (rates : List ℕ) (before : List Entry) (e : Entry) (left : List ℕ) → SoundCue e → length before < 1024 → cues_from place rates before none (cue_words (e ∷ []) ++ left) ≡ cues_from (place + 4) rates (before ++ (e ∷ [])) none left
 cue_back place rates before e left s room =
-    all_read place rates before (cue_words (e ∷ []) ++ left) (omega arith)
+    four_read place rates before (word Release e.release) (word Deadline e.deadline) (word Budget e.budget) (word Spent e.actual) left
+    (is_word End Release e.release (omega arith))
     (is_word Release Release e.release (omega arith))
     (is_word Deadline Deadline e.deadline (omega arith))
     (is_word Budget Budget e.budget (omega arith))
     (is_word Spent Spent e.actual s.fits)
-    (is_word End Release e.release (omega arith))
     ∙ ap (λ x. cue_taken place before x (cues_from (place + 4) rates (before ++ (x ∷ [])) none left)) (same_entry e s)
     ∙ taken_back place before e _ s room
 

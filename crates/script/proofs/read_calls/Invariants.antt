@@ -1,9 +1,11 @@
-use Rattle.std.proofs.Common.{length, vec_items}
-use Rattle.script.proofs.CallSteps.{CallsSoFar}
+use Rattle.std.proofs.Common.{◌≡◌, ℕ, ◌≤◌, List, [], length, None, vec_items}
+use Rattle.script.specs.Reading.{calls_from}
 use Rattle.script.proofs.read_calls.Given as goal
 
 abbrev pub invariant-loop-calls : goal.invariant-loop-calls
-invariant-loop-calls l = CallsSoFar l.first l.words l.place (vec_items l.calls) l.ticks l.left
+invariant-loop-calls l =
+    (l.ticks ≤ 1000000)
+    × ((rates : List ℕ) → calls_from l.first.place rates [] 0 None l.first.words.now ≡ calls_from l.left.place rates (vec_items l.calls) l.ticks None l.left.words.now)
 
 abbrev pub decreases-loop-calls : goal.decreases-loop-calls
-decreases-loop-calls l = length l.left
+decreases-loop-calls l = length l.left.words.now
