@@ -4,47 +4,40 @@ use Rattle.std.proofs.ByRecursion.{has_get_or, has_shuffled}
 use Rattle.std.proofs.lemmas.List.{get_or-take, get_or-drop, get_or_append_left, get_or_push, get_or-map, length_push, length-take-le, length-drop, length-map, get_or_read}
 use Rattle.std.proofs.lemmas.Bool.{cases_lt}
 use Rattle.ordering.specs.First.{First}
-use Rattle.cues.specs.declared.candidate.Candidate.{Candidate}
+use Rattle.cues.specs.declared.load.Load.{Load}
 use Rattle.cues.specs.declared.cue.Cue.{Cue}
-use Rattle.cues.specs.declared.due.Due.{Due}
-use Rattle.cues.specs.Candidates.{candidate_at, due_of, ByDeadline, DueAfter, DueLater, BestFrom, Bests}
+use Rattle.cues.specs.Candidates.{candidate_at, ByDeadline, DueLater, Written, BestFrom, Bests}
 use Rattle.cues.specs.Orders.{candidate_before, candidate_equal}
 
--- The first of the candidates that are written, all from a place on, is the best.
-pub best_from_first : (start : ℕ) (dues : List Due) (late place : ℕ) (candidates : List Candidate) (e : Candidate) → DueAfter start dues late → length dues ≡ length candidates
-    → ((k : ℕ) (d : Due) (e : Candidate) → late ≤ k → k < length dues → get_or candidates k e ≡ candidate_at start dues k d)
-    → First candidate_before candidate_equal (drop late candidates) place → BestFrom start dues (get_or candidates (late + place) e)
-best_from_first start dues late place candidates e after room written first =
-    let inside : late + place < length dues = omega (arith, first.within, length-drop late candidates) in
+-- The first of the candidates that are written is the best.
+pub best_from_first : (start : ℕ) (dues : List Cue) (candidates : List Load) (place : ℕ) (e : Load) → Written start dues candidates
+    → First candidate_before candidate_equal candidates place → BestFrom start dues (get_or candidates place e)
+best_from_first start dues candidates place e written first =
+    let late = written.late in
     record {
-      among = (late + place, inside, λ d. written (late + place) d e (omega arith) inside);
+      among = (late + place, omega (arith, first.within, written.many), λ d. written.each place d e first.within);
       unbeaten = λ k d lt ahead.
-          let from : late ≤ k = ⊎_elim (λ (early : k < late). absurd (omega (arith, after.over k d early))) (λ p. p) (cases_lt k late) in
-          let there : get_or (drop late candidates) (k - late) e ≡ candidate_at start dues k d =
-          get_or-drop late candidates (k - late) e ∙ ap (λ n. get_or candidates n e) (omega arith) ∙ written k d e from lt in
-          let unbeaten = first.unbeaten (k - late) e (omega (arith, length-drop late candidates)) in
-          ap (λ x. candidate_before x (get_or candidates (late + place) e)) (sym there)
-          ∙ ap (λ y. candidate_before (get_or (drop late candidates) (k - late) e) y) (sym (get_or-drop late candidates place e))
-          ∙ unbeaten;
+          let from : late ≤ k = ⊎_elim (λ (early : k < late). absurd (omega (arith, written.after.over k d early))) (λ p. p) (cases_lt k late) in
+          let there : get_or candidates (k - late) e ≡ candidate_at start dues k d =
+          written.each (k - late) d e (omega (arith, written.many)) ∙ ap (λ n. candidate_at start dues n d) (omega arith) in
+          ap (λ x. candidate_before x (get_or candidates place e)) (sym there) ∙ first.unbeaten (k - late) e (omega (arith, written.many));
     }
 
 -- Each cue is itself due after its release.
-pub due-after_release : (cues : List Cue) (dues : List Due) (i : ℕ) (cue : Cue) → ByDeadline cues dues → i < length cues → cue ≡ get_or cues i cue → DueLater cue.release dues
+pub due-after_release : (cues : List Cue) (dues : List Cue) (i : ℕ) (cue : Cue) → ByDeadline cues dues → i < length cues → cue ≡ get_or cues i cue → DueLater cue.release dues
 due-after_release cues dues i cue sorted lt is =
-    let there = has_shuffled (map due_of cues) dues (get_or (map due_of cues) i (due_of cue)) sorted.same
-    (has_get_or (map due_of cues) i (due_of cue) (omega (arith, length-map cues due_of))) in
-    let same : get_or dues there.0 (due_of cue) ≡ due_of cue =
-    there.2 (due_of cue) ∙ get_or-map due_of cues i cue (due_of cue) lt ∙ ap due_of (sym is) in
-    (there.0, due_of cue, there.1, subst (λ x. cue.release < x.cue.deadline) (sym same) cue.rising)
+    let there = has_shuffled cues dues (get_or cues i cue) sorted.same (has_get_or cues i cue lt) in
+    let same : get_or dues there.0 cue ≡ cue = there.2 cue ∙ sym is in
+    (there.0, cue, there.1, subst (λ x. cue.release < x.deadline) (sym same) cue.rising)
 
-pub bests_none : {dues : List Due} → Bests [] dues []
+pub bests_none : {dues : List Cue} → Bests [] dues []
 bests_none = record { many = refl; each = λ k c e lt. absurd (omega arith) }
 
-module _ (cues : List Cue) (dues : List Due) (bests : List Candidate) (i : ℕ) (inside : i < length cues) (so_far : Bests (take i cues) dues bests) where
+module _ (cues : List Cue) (dues : List Cue) (bests : List Load) (i : ℕ) (inside : i < length cues) (so_far : Bests (take i cues) dues bests) where
   long : length bests ≡ i
   long = so_far.many ∙ length-take-le i cues (omega arith)
 
-  pub bests-more : (cue : Cue) (best : Candidate) → cue ≡ get_or cues i cue → BestFrom cue.release dues best → Bests (take (i + 1) cues) dues (bests ++ best ∷ [])
+  pub bests-more : (cue : Cue) (best : Load) → cue ≡ get_or cues i cue → BestFrom cue.release dues best → Bests (take (i + 1) cues) dues (bests ++ best ∷ [])
   bests-more cue best is found =
       let upto = length-take-le (i + 1) cues (omega arith) in
       let pushed = length_push bests best in

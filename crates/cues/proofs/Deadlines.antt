@@ -1,5 +1,5 @@
 -- Sums over the cues in the order of their deadlines: the budgets up to the last of those due at b are the demand of an interval that ends at b.
-use Rattle.std.proofs.Common.{◌≡◌, ℕ, zero, suc, ◌+◌, ◌-◌, ◌<◌, ◌≤◌, cond, List, [], ◌∷◌, map, length, get_or, take, drop, sum_by, sym, refl, ap, ◌∙◌, ⊎_elim, mul-zero, arith}
+use Rattle.std.proofs.Common.{◌≡◌, ℕ, zero, suc, ◌+◌, ◌-◌, ◌<◌, ◌≤◌, cond, List, [], ◌∷◌, length, get_or, take, drop, sum_by, sym, refl, ap, ◌∙◌, ⊎_elim, mul-zero, arith}
 use Rattle.std.proofs.ByRecursion.{All-from_get_or, sum_by_le}
 use Rattle.std.proofs.lemmas.List.{get_or-take, get_or-drop, length-take, length-drop}
 use Rattle.std.proofs.lemmas.List.Sorted.{sum_by-IsPermutation}
@@ -7,14 +7,13 @@ use Rattle.std.proofs.lemmas.List.Sums.{sum_by-cons, sum_by-take-drop}
 use Rattle.std.proofs.lemmas.Bool.{cases_eq}
 use Rattle.std.proofs.lemmas.Bool.Decides.{nat_tests}
 use Rattle.cues.specs.declared.cue.Cue.{Cue}
-use Rattle.cues.specs.declared.due.Due.{Due}
-use Rattle.cues.specs.Candidates.{share, due_of, ByDeadline}
+use Rattle.cues.specs.Candidates.{share, ByDeadline}
 use Rattle.cues.specs.Cues.{job_of, jobs_of}
 use Rattle.cues.specs.Demand.{inside, demand}
 
 -- The budget that a cue brings to [a, b).
-abbrev weight : ℕ → ℕ → Due → ℕ
-weight a b due = cond (inside a b (job_of due.cue)) due.cue.budget 0
+abbrev weight : ℕ → ℕ → Cue → ℕ
+weight a b due = cond (inside a b (job_of due)) due.budget 0
 
 sums_alike : {X : Type 0} (f g : X → ℕ) (xs : List X) (d : X) → ((k : ℕ) → k < length xs → f (get_or xs k d) ≡ g (get_or xs k d)) → sum_by f xs ≡ sum_by g xs
 sums_alike f g [] d same = refl
@@ -25,16 +24,16 @@ sums_alike f g (x ∷ xs) d same =
     let other = sum_by-cons g x xs in
     omega arith
 
-demand-sum : (cues : List Cue) (a b : ℕ) → demand (jobs_of cues) a b ≡ sum_by (weight a b) (map due_of cues)
+demand-sum : (cues : List Cue) (a b : ℕ) → demand (jobs_of cues) a b ≡ sum_by (weight a b) cues
 demand-sum [] a b = refl
-demand-sum (c ∷ cues) a b = ap (λ n. weight a b (due_of c) + n) (demand-sum cues a b) ∙ sym (sum_by-cons (weight a b) (due_of c) (map due_of cues))
+demand-sum (c ∷ cues) a b = ap (λ n. weight a b c + n) (demand-sum cues a b) ∙ sym (sum_by-cons (weight a b) c cues)
 
-module _ (cues : List Cue) (dues : List Due) (sorted : ByDeadline cues dues) (d : Due) where
+module _ (cues : List Cue) (dues : List Cue) (sorted : ByDeadline cues dues) (d : Cue) where
   abbrev pub deadline-at : ℕ → ℕ
-  deadline-at k = (get_or dues k d).cue.deadline
+  deadline-at k = (get_or dues k d).deadline
 
   demand-is : (a b : ℕ) → demand (jobs_of cues) a b ≡ sum_by (weight a b) dues
-  demand-is a b = demand-sum cues a b ∙ sym (sum_by-IsPermutation (weight a b) (map due_of cues) dues sorted.same)
+  demand-is a b = demand-sum cues a b ∙ sym (sum_by-IsPermutation (weight a b) cues dues sorted.same)
 
   -- up to a place, every cue that is released in time is due by then
   front : (a k : ℕ) → k < length dues → sum_by (share a) (take (k + 1) dues) ≡ sum_by (weight a (deadline-at k)) (take (k + 1) dues)
@@ -42,7 +41,7 @@ module _ (cues : List Cue) (dues : List Due) (sorted : ByDeadline cues dues) (d 
       sums_alike (share a) (weight a (deadline-at k)) (take (k + 1) dues) d
       (λ i below.
       let among : i < k + 1 = omega (arith, length-take (k + 1) dues) in
-      let early : (get_or dues i d).cue.deadline ≤ deadline-at k = sorted.rising i k d (omega arith) lt in
+      let early : (get_or dues i d).deadline ≤ deadline-at k = sorted.rising i k d (omega arith) lt in
       rw (get_or-take (k + 1) dues i d among) (grind (arith, nat_tests)))
 
   pub front-short : (a k : ℕ) → k < length dues → sum_by (share a) (take (k + 1) dues) ≤ demand (jobs_of cues) a (deadline-at k)

@@ -5,10 +5,9 @@ use Rattle.std.proofs.lemmas.List.{get_or-map, length-map}
 use Rattle.std.proofs.lemmas.List.Sorted.{IsPermutation-sym}
 use Rattle.ordering.specs.First.{First}
 use Rattle.ordering.proofs.Lawful.{order-ranks}
-use Rattle.cues.specs.declared.candidate.Candidate.{Candidate}
+use Rattle.cues.specs.declared.load.Load.{Load}
 use Rattle.cues.specs.declared.cue.Cue.{Cue}
-use Rattle.cues.specs.declared.due.Due.{Due}
-use Rattle.cues.specs.Candidates.{candidate_at, due_of, ByDeadline, Bests, FirstOfBests}
+use Rattle.cues.specs.Candidates.{candidate_at, ByDeadline, Bests, FirstOfBests}
 use Rattle.cues.specs.Cues.{job_of, jobs_of}
 use Rattle.cues.specs.Demand.{Job, demand}
 use Rattle.cues.specs.Loading.{SomeJob, Greatest, Loading}
@@ -27,24 +26,23 @@ module _ (first : Cue) (others : List Cue) where
   abbrev cues : List Cue
   cues = first ∷ others
 
-  abbrev d : Due
-  d = due_of first
+  abbrev d : Cue
+  d = first
 
   -- the job at a place is that of the cue there
   job-at : (k : ℕ) (j : Job) → k < length cues → get_or (jobs_of cues) k j ≡ job_of (get_or cues k first)
   job-at k j lt = get_or-map job_of cues k first j lt
 
-  module _ (dues : List Due) (sorted : ByDeadline cues dues) where
+  module _ (dues : List Cue) (sorted : ByDeadline cues dues) where
     -- each deadline has its place in the order of deadlines
     due-place : (y : ℕ) → SomeJob (λ j. j.deadline ≡ y) (jobs_of cues) → (k : ℕ) × (k < length dues) × (deadline-at cues dues sorted d k ≡ y)
     due-place y found =
         let k = found.0 in
         let inside : k < length cues = omega (arith, found.1, length-map cues job_of) in
-        let there = has_shuffled (map due_of cues) dues (get_or (map due_of cues) k d) sorted.same
-        (has_get_or (map due_of cues) k d (omega (arith, length-map cues due_of))) in (
+        let there = has_shuffled cues dues (get_or cues k d) sorted.same (has_get_or cues k d inside) in (
           there.0,
           there.1,
-          ap (λ x. x.cue.deadline) (there.2 d ∙ get_or-map due_of cues k first d inside)
+          ap (λ x. x.deadline) (there.2 d)
               ∙ sym (ap (λ j. j.deadline) (job-at k (job_of first) inside))
               ∙ found.2 (job_of first),
         )
@@ -52,20 +50,17 @@ module _ (first : Cue) (others : List Cue) where
     -- and each place there a job with its deadline
     due-job : (k : ℕ) → k < length dues → SomeJob (λ j. j.deadline ≡ deadline-at cues dues sorted d k) (jobs_of cues)
     due-job k lt =
-        let back = has_shuffled dues (map due_of cues) (get_or dues k d) (IsPermutation-sym (map due_of cues) dues sorted.same) (has_get_or dues k d lt) in
-        let inside : back.0 < length cues = omega (arith, back.1, length-map cues due_of) in (
+        let back = has_shuffled dues cues (get_or dues k d) (IsPermutation-sym cues dues sorted.same) (has_get_or dues k d lt) in (
           back.0,
-          omega (arith, length-map cues job_of),
-          λ j. ap (λ j. j.deadline) (job-at back.0 j inside)
-              ∙ sym (ap (λ x. x.cue.deadline) (get_or-map due_of cues back.0 first d inside))
-              ∙ ap (λ x. x.cue.deadline) (back.2 d),
+          omega (arith, back.1, length-map cues job_of),
+          λ j. ap (λ j. j.deadline) (job-at back.0 j back.1) ∙ ap (λ x. x.deadline) (back.2 d),
         )
 
-    module _ (bests : List Candidate) (kept : Bests cues dues bests) (place : ℕ) (is-first : First candidate_before candidate_equal bests place) where
-      abbrev none : Candidate
+    module _ (bests : List Load) (kept : Bests cues dues bests) (place : ℕ) (is-first : First candidate_before candidate_equal bests place) where
+      abbrev none : Load
       none = record { demand = 0; length = 0; start = 0; end = 0 }
 
-      abbrev best : Candidate
+      abbrev best : Load
       best = get_or bests place none
 
       -- no candidate from any release is before it
@@ -106,7 +101,7 @@ module _ (first : Cue) (others : List Cue) where
           rw (start_is, end_is) (omega (arith, demand-is, front-short cues dues sorted d (get_or cues place first).release m among.1)) in
           greatest-from-unbeaten (job_of first) (jobs_of others) (timely cues) best starts ends (omega (arith, length-is, start_is, end_is)) short unbeaten
 
-pub loading_from_bests : (cues : List Cue) (dues : List Due) (bests : List Candidate) (r : ℕ × ℕ × ℕ × ℕ)
+pub loading_from_bests : (cues : List Cue) (dues : List Cue) (bests : List Load) (r : ℕ × ℕ × ℕ × ℕ)
     → ByDeadline cues dues → Bests cues dues bests → FirstOfBests bests r → Loading (jobs_of cues) r.0 r.1 r.2 r.3
 loading_from_bests [] dues bests r sorted kept answer =
     ⊎_elim

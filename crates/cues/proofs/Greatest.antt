@@ -2,7 +2,7 @@
 use Rattle.std.proofs.Common.{◌≡◌, ℕ, ◌-◌, ◌*◌, ◌<◌, ◌≤◌, max, false, ◌⊎◌, List, ◌∷◌, sym, refl, inl, inr, ⊎_elim, mul-le-mul, mul-le-mul_left, zero-mul, le_of_mul-le-mul_right, arith}
 use native.Mathlib.Nat.{le_of_mul-le-mul_left}
 use Rattle.std.proofs.lemmas.Bool.{cases_lt}
-use Rattle.cues.specs.declared.candidate.Candidate.{Candidate}
+use Rattle.cues.specs.declared.load.Load.{Load}
 use Rattle.cues.specs.Demand.{Job, demand}
 use Rattle.cues.specs.Loading.{SomeJob, Greatest}
 use Rattle.cues.specs.Orders.{candidate_before}
@@ -10,7 +10,7 @@ use Rattle.cues.specs.CandidateOrder.{not_before}
 use Rattle.cues.proofs.Intervals.{Timely, no_demand, own_demand, shrinks}
 
 -- The candidate that an interval is.
-abbrev pub interval : List Job → ℕ → ℕ → Candidate
+abbrev pub interval : List Job → ℕ → ℕ → Load
 interval js x y = record { demand = demand js x y; length = y - x; start = x; end = y }
 
 -- A product of positive numbers is positive.
@@ -19,7 +19,7 @@ positive_product m n p q =
     let least : 1 * 1 ≤ m * n = mul-le-mul {n₁ = 1} {m₁ = 1} (omega arith) (omega arith) in
     omega arith
 
-module _ (j : Job) (others : List Job) (timely : Timely (j ∷ others)) (best : Candidate)
+module _ (j : Job) (others : List Job) (timely : Timely (j ∷ others)) (best : Load)
     (starts : SomeJob (λ i. i.release ≡ best.start) (j ∷ others))
     (ends : SomeJob (λ i. i.deadline ≡ best.end) (j ∷ others))
     (long : best.length ≡ best.end - best.start)

@@ -1,58 +1,87 @@
--- One turn of the pass that writes the candidates from a start.
-use Rattle.std.proofs.Common.{◌≡◌, ℕ, ◌+◌, ◌-◌, ◌*◌, ◌<◌, ◌≤◌, ◌≢◌, List, length, get_or, take, set, sum_by, sym, ap, ◌∙◌, mul-zero, arith, below_more}
+-- The pass that writes the candidates from a start: each turn adds one budget to the sum and gives one candidate.
+use Rattle.std.proofs.Common.{◌≡◌, ℕ, zero, suc, ◌+◌, ◌-◌, ◌*◌, ◌^◌, ◌<◌, ◌≤◌, min, cond, leb, List, [], ◌∷◌, length, get_or, take, drop, sum_by, refl, sym, ap, ◌∙◌, mul-zero, arith}
+use Rattle.std.specs.List.{scan}
 use Rattle.std.proofs.ByRecursion.{all_from_every, sum_by_le}
-use Rattle.std.proofs.lemmas.List.{get_or-set_same, get_or-set_other, get_or-take, length-take-le}
-use Rattle.std.proofs.lemmas.List.Sums.{sum_by_more}
+use Rattle.std.proofs.lemmas.List.{get_or-take, get_or-drop, length-take-le, length-drop, take-take, drop-take}
+use Rattle.std.proofs.lemmas.List.Sums.{sum_by-cons, sum_by-take-drop}
 use Rattle.std.proofs.lemmas.Bool.Decides.{nat_tests}
-use Rattle.cues.specs.declared.candidate.Candidate.{Candidate}
-use Rattle.cues.specs.declared.due.Due.{Due}
-use Rattle.cues.specs.Candidates.{share, candidate_at, DueAfter}
+use Rattle.cues.specs.declared.cue.Cue.{Cue}
+use Rattle.cues.specs.declared.load.Load.{Load}
+use Rattle.cues.specs.Candidates.{share, candidate_at, DueAfter, Written}
 
-module _ (start : ℕ) (dues : List Due) (late : ℕ) where
-  -- the candidates from a place to below another are written, and the budgets are summed
-  pub record Writing (place demand : ℕ) (candidates : List Candidate) : Type 0 where
-    pub summed : demand ≡ sum_by (share start) (take place dues)
-    pub small : demand ≤ 65535 * place
-    pub written : (k : ℕ) (d : Due) (e : Candidate) → late ≤ k → k < place → get_or candidates k e ≡ candidate_at start dues k d
+module _ (start : ℕ) where
+  -- the sum after a cue, cut off at the largest number
+  abbrev pub sum_after : ℕ → Cue → ℕ
+  sum_after sum cue = cond (leb start cue.release) (min (sum + cue.budget) (2 ^ 32 - 1)) sum
+
+  -- the candidate that ends at the deadline of a cue, where the cues before it sum to this
+  abbrev pub ending_at : ℕ → Cue → Load
+  ending_at sum cue = record { demand = sum_after sum cue; length = cue.deadline - start; start = start; end = cue.deadline }
+
+  sums : (sum : ℕ) (cue : Cue) → sum + 65535 < 2 ^ 32 → sum_after sum cue ≡ sum + share start cue
+  sums sum cue small = let little = cue.little_work in grind (arith, nat_tests)
+
+  share-small : (cue : Cue) → share start cue ≤ 65535
+  share-small cue = let little = cue.little_work in grind (arith, nat_tests)
+
+  length-written : (cues : List Cue) (sum : ℕ) → length (scan sum_after ending_at sum cues) ≡ length cues
+  length-written [] sum = refl
+  length-written (c ∷ cues) sum = ap suc (length-written cues (sum_after sum c))
+
+  written-at : (cues : List Cue) (sum k : ℕ) (d : Cue) (e : Load) → sum + 65535 * length cues < 2 ^ 32 → k < length cues
+      → get_or (scan sum_after ending_at sum cues) k e
+      ≡ record { demand = sum + sum_by (share start) (take (suc k) cues); length = (get_or cues k d).deadline - start; start = start; end = (get_or cues k d).deadline }
+  written-at [] sum k d e small lt = absurd (omega arith)
+  written-at (c ∷ cues) sum zero d e small lt =
+      let first = sums sum c (omega arith) in
+      let one : sum_after sum c ≡ sum + sum_by (share start) (c ∷ []) = omega (arith, sum_by-cons (share start) c []) in
+      ap (λ n. record { demand = n; length = c.deadline - start; start = start; end = c.deadline }) one
+  written-at (c ∷ cues) sum (suc k) d e small lt =
+      let first = sums sum c (omega arith) in
+      let little = share-small c in
+      let rest = written-at cues (sum_after sum c) k d e (omega arith) (omega arith) in
+      let all : sum_after sum c + sum_by (share start) (take (suc k) cues) ≡ sum + sum_by (share start) (c ∷ take (suc k) cues) =
+      omega (arith, sum_by-cons (share start) c (take (suc k) cues)) in
+      rest ∙ ap (λ n. record { demand = n; length = (get_or cues k d).deadline - start; start = start; end = (get_or cues k d).deadline }) all
 
   -- no cue that is due by the start is released after it
-  share-over : (due : Due) → due.cue.deadline ≤ start → share start due ≡ 0
-  share-over due over = let rising = due.cue.rising in grind (arith, nat_tests)
+  share-over : (cue : Cue) → cue.deadline ≤ start → share start cue ≡ 0
+  share-over cue over = let rising = cue.rising in grind (arith, nat_tests)
 
-  pub writing-none : (candidates : List Candidate) → DueAfter start dues late → Writing late 0 candidates
-  writing-none candidates after =
-      let long = length-take-le late dues after.within in
-      let none = sum_by_le (share start) 0 (take late dues)
-      (all_from_every (λ x. share start x ≤ 0) (take late dues)
-      (λ i d from below.
-      let early : i < late = omega arith in
-      let zero_is = share-over (get_or dues i d) (after.over i d early) in
-      rw (get_or-take late dues i d early) (omega arith))) in
-      record {
-        summed = omega (arith, mul-zero (length (take late dues)));
-        small = omega arith;
-        written = λ k d e from lt. absurd (omega arith);
-      }
+  module _ (dues : List Cue) (late : ℕ) (after : DueAfter start dues late) where
+    early-none : sum_by (share start) (take late dues) ≡ 0
+    early-none =
+        let long = length-take-le late dues after.within in
+        let none = sum_by_le (share start) 0 (take late dues)
+        (all_from_every (λ x. share start x ≤ 0) (take late dues)
+        (λ i d from below.
+        let early : i < late = omega arith in
+        let zero_is = share-over (get_or dues i d) (after.over i d early) in
+        rw (get_or-take late dues i d early) (omega arith))) in
+        omega (arith, mul-zero (length (take late dues)))
 
-  share-small : (due : Due) → share start due ≤ 65535
-  share-small due = grind (arith, due.cue.little_work)
+    -- the sums from the first later cue on are those from the first of all
+    later-sum : (k : ℕ) → sum_by (share start) (take (suc k) (drop late dues)) ≡ sum_by (share start) (take (late + k + 1) dues)
+    later-sum k =
+        let upto : late + suc k ≡ late + k + 1 = omega arith in
+        let split = sum_by-take-drop (share start) (take (late + suc k) dues) late in
+        let both : sum_by (share start) (take late dues) + sum_by (share start) (take (suc k) (drop late dues)) ≡ sum_by (share start) (take (late + suc k) dues) =
+        rw (take-take late (late + suc k) dues (omega arith), drop-take late (suc k) dues) at split in
+        rw (← upto) (omega (arith, early-none))
 
-  module _ (place demand : ℕ) (candidates : List Candidate) (inside : place < length dues) (room : place < length candidates) (so_far : Writing place demand candidates) (due : Due) (read : (d : Due) → get_or dues place d ≡ due) where
-    pub writing_more : (next : ℕ) (v : Candidate) → next ≡ demand + share start due
-        → v ≡ record { demand = next; length = due.cue.deadline - start; start = start; end = due.cue.deadline }
-        → Writing (place + 1) next (set candidates place v)
-    writing_more next v sums is =
-        let summed : next ≡ sum_by (share start) (take (place + 1) dues) =
-        sums ∙ ap (λ n. n + share start due) so_far.summed ∙ ap (λ x. sum_by (share start) (take place dues) + share start x) (sym (read due)) ∙ sym (sum_by_more (share start) dues place due inside) in
-        let little = share-small due in
-        let old = so_far.small in
+    pub all-written : (candidates : List Load) → length dues ≤ 1024 → candidates ≡ scan sum_after ending_at 0 (drop late dues) → Written start dues candidates
+    all-written candidates few is =
+        let many : length candidates ≡ length (drop late dues) = ap length is ∙ length-written (drop late dues) 0 in
+        let long = length-drop late dues in
+        let within = after.within in
         record {
-          summed = summed;
-          small = omega arith;
-          written = λ k d e from lt. below_more (λ k. late ≤ k → get_or (set candidates place v) k e ≡ candidate_at start dues k d) place
-              (λ k lt from. let ne : k ≢ place = omega arith in rw get_or-set_other (so_far.written k d e from lt))
-              (λ from. get_or-set_same candidates place v e room ∙ is
-              ∙ ap (λ x. record { demand = next; length = x.cue.deadline - start; start = start; end = x.cue.deadline }) (sym (read d))
-              ∙ ap (λ n. record { demand = n; length = (get_or dues place d).cue.deadline - start; start = start; end = (get_or dues place d).cue.deadline }) summed)
-              k lt from;
+          late = late;
+          after = after;
+          many = omega arith;
+          each = λ k d e lt.
+              ap (λ xs. get_or xs k e) is
+              ∙ written-at (drop late dues) 0 k d e (omega arith) (omega arith)
+              ∙ ap (λ c. record { demand = 0 + sum_by (share start) (take (suc k) (drop late dues)); length = c.deadline - start; start = start; end = c.deadline }) (get_or-drop late dues k d)
+              ∙ ap (λ n. record { demand = n; length = (get_or dues (late + k) d).deadline - start; start = start; end = (get_or dues (late + k) d).deadline })
+              (let whole = later-sum k in omega arith);
         }

@@ -4,7 +4,7 @@ use Rattle.std.proofs.Common.{arith}
 use Rattle.std.proofs.lemmas.Bool.Decides.{nat_tests}
 use Rattle.ordering.specs.Lawful.{Lawful}
 use Rattle.ordering.proofs.Orders.{by_number, lexical}
-use Rattle.cues.specs.declared.candidate.Candidate.{Candidate}
+use Rattle.cues.specs.declared.load.Load.{Load}
 use Rattle.cues.specs.Orders.{span, candidate_before, candidate_equal}
 use Rattle.cues.specs.Ratio.{larger-first}
 
@@ -16,6 +16,6 @@ not_before_parts : (m n s t u v : ℕ) → (nat_lt n m || (n == m && (nat_lt s t
 not_before_parts m n s t u v h = (grind (arith, nat_tests), λ e. (grind (arith, nat_tests), λ f. grind (arith, nat_tests)))
 
 -- A candidate that is not before another has no larger ratio; of the same ratio it starts no earlier, and of the same start it ends no earlier.
-pub not_before : (x y : Candidate) → candidate_before x y ≡ false
+pub not_before : (x y : Load) → candidate_before x y ≡ false
     → (x.demand * span y ≤ y.demand * span x) × (x.demand * span y ≡ y.demand * span x → (y.start ≤ x.start) × (y.start ≡ x.start → y.end ≤ x.end))
 not_before x y h = not_before_parts (x.demand * span y) (y.demand * span x) x.start y.start x.end y.end h

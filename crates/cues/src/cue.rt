@@ -1,4 +1,4 @@
-// One cue of a sheet. Every cue that exists keeps the three bounds below, whoever made it.
+//! One cue of a sheet. Every cue that exists keeps the three bounds below, whoever made it.
 ghost use Rattle.std.specs.Prelude.{◌<◌, ◌≤◌};
 
 pub mod methods;

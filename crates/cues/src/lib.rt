@@ -1,10 +1,8 @@
-// Cues, lists of cues, and how much a list asks for: each cue is a piece of work with a release, a deadline and a budget, and
-// the loading factor of a list is the greatest share of an interval that its cues need. A list is admitted by that factor.
+//! Cues, lists of cues, and how much a list asks for: each cue is a piece of work with a release, a deadline and a budget, and
+//! the loading factor of a list is the greatest share of an interval that its cues need. A list is admitted by that factor.
 #![tactic(auto)]
 
-pub mod candidate;
 pub mod cue;
-mod due;
 pub mod list;
 pub mod load;
 mod loading;

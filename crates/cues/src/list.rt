@@ -1,4 +1,4 @@
-// The cues of a sheet in their order. Every list that exists holds at most 1,024.
+//! The cues of a sheet in their order. Every list that exists holds at most 1,024.
 ghost use Rattle.std.specs.Prelude.{◌≤◌, vec_len};
 
 pub mod methods;

@@ -1,6 +1,11 @@
-// How much an interval asks for: what its cues demand, and its length, for its start and its end.
+//! How much an interval asks for: what its cues demand, and its length, for its start and its end; and which of two such
+//! intervals comes first.
 ghost use Rattle.std.specs.Prelude.{◌≡◌};
 ghost use Rattle.cues.specs.declared.load.Load.{Load};
+ghost use Rattle.cues.specs.Orders.{candidate_before, candidate_equal};
+ghost use Rattle.cues.specs.CandidateOrder.{candidate_lawful};
+
+use ordering::Before;
 
 #[derive(Clone, Copy, PartialEq, Eq, Debug)]
 pub struct Load {
@@ -21,5 +26,29 @@ impl From<(u32, u32, u32, u32)> for Load {
             start,
             end,
         }
+    }
+}
+
+impl From<Load> for (u32, u32, u32, u32) {
+    ghost from_gives = { λ load r. r ≡ (load.demand, load.length, load.start, load.end) };
+
+    fn from(load: Load) -> (u32, u32, u32, u32) {
+        (load.demand, load.length, load.start, load.end)
+    }
+}
+
+impl Before for Load {
+    ghost before = { candidate_before };
+
+    ghost equal = { candidate_equal };
+
+    ghost lawful = { candidate_lawful };
+
+    // The ratios are compared by cross-multiplication, which is exact; an empty interval counts as one tick.
+    fn is_before(&self, other: &Load) -> bool {
+        let ours = u64::from(self.demand) * u64::from(other.length.max(1));
+        let theirs = u64::from(other.demand) * u64::from(self.length.max(1));
+        theirs < ours
+            || (theirs == ours && (self.start, self.end) < (other.start, other.end))
     }
 }

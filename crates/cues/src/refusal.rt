@@ -1,6 +1,10 @@
-// Why a cue, or one more cue, is not taken. Each cause but the want of memory has a number and returns the value that it is about.
+//! Why a cue, or one more cue, is not taken. Each cause but the want of memory has a number and returns the value that it is about.
 ghost use Rattle.std.specs.Prelude.{◌≡◌};
 ghost use Rattle.cues.specs.Refusals.{number_of, value_of, list_number, list_value};
+ghost use Rattle.cues.specs.declared.refusal.ListRefusal.TheVariants.{NoMemory};
+
+use crate::cue::Cue;
+use std::alloc::AllocFailed;
 
 #[derive(Clone, Copy, PartialEq, Eq, Debug)]
 pub enum CueRefusal {
@@ -35,6 +39,14 @@ pub enum ListRefusal {
     // The list holds as many cues as it may.
     Full { most: u32 },
     NoMemory,
+}
+
+impl From<AllocFailed<Cue>> for ListRefusal {
+    ghost from_gives = { λ failed r. r ≡ NoMemory };
+
+    fn from(_failed: AllocFailed<Cue>) -> ListRefusal {
+        ListRefusal::NoMemory
+    }
 }
 
 impl ListRefusal {

@@ -1,9 +1,7 @@
--- What the laws of an order give: its test ranks, and the best so far by that test is the first.
-use Rattle.std.proofs.Common.{◌≡◌, ℕ, ◌<◌, ◌≤◌, Bool, true, false, List, length, get_or, sym, ◌∙◌, ⊎_elim, arith}
+-- What the laws of an order give: its test ranks.
+use Rattle.std.proofs.Common.{◌≡◌, Bool, true, false, sym, ◌∙◌, ⊎_elim}
 use Rattle.std.specs.Cmp.{IsStrictWeakOrder}
-use Rattle.std.specs.List.{IsFirstBest}
 use Rattle.std.proofs.lemmas.Bool.{both_ways, cases_Bool}
-use Rattle.ordering.specs.First.{First}
 use Rattle.ordering.specs.Lawful.{Lawful}
 
 module _ {X : Type 0} {before equal : X → X → Bool} (o : Lawful before equal) where
@@ -38,12 +36,3 @@ module _ {X : Type 0} {before equal : X → X → Bool} (o : Lawful before equal
 
   pub order-ranks : IsStrictWeakOrder before
   order-ranks = record { one_way = o.one_way; chain = not-before-onward }
-
-  -- once every place is passed, the best so far is the first
-  pub first-from-best : (xs : List X) (i p : ℕ) → p < length xs → length xs ≤ i → IsFirstBest before xs i p → First before equal xs p
-  first-from-best xs i p l past best =
-      record {
-        within = l;
-        unbeaten = λ k d lt. best.1 k d (omega arith);
-        earliest = λ k d lt. apart-behind (get_or xs k d) (get_or xs p d) (best.2 k d lt);
-      }

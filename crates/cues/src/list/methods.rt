@@ -1,4 +1,4 @@
-// Making a list of cues, adding to it, and reading it.
+//! Making a list of cues, adding to it, and reading it.
 ghost use Rattle.std.specs.Prelude.{◌≡◌, [], length};
 ghost use Rattle.cues.specs.CueLists.{cues_of, Pushed, Found};
 
@@ -28,10 +28,7 @@ impl CueList {
                 most: CueList::MOST,
             });
         }
-        match self.cues.push(cue) {
-            Ok(()) => Ok(()),
-            Err(_) => Err(ListRefusal::NoMemory),
-        }
+        Ok(self.cues.push(cue)?)
     }
 
     pub fn len(&self) -> usize
@@ -44,11 +41,7 @@ impl CueList {
     pub fn get(&self, place: usize) -> Option<Cue>
         ensures { Found (cues_of self.now) place result }
     {
-        if place < self.len() {
-            Some(self.cues[place])
-        } else {
-            None
-        }
+        self.cues.get(place).copied()
     }
 
     pub fn as_slice(&self) -> &[Cue]
