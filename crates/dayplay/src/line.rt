@@ -89,7 +89,7 @@ impl fmt::Display for SwitchPart {
 
     fn fmt<W: fmt::Write>(&self, f: &mut fmt::Formatter<W>) -> fmt::Result {
         match self.0 {
-            None => write!(f, ""),
+            None => Ok(()),
             Some(switch) => {
                 let aside = AsidePart(switch.aside);
                 let turn = TurnPart(switch.turn);
@@ -106,7 +106,7 @@ impl fmt::Display for AsidePart {
 
     fn fmt<W: fmt::Write>(&self, f: &mut fmt::Formatter<W>) -> fmt::Result {
         match self.0 {
-            None => write!(f, ""),
+            None => Ok(()),
             Some(job) => write!(f, " aside {job}"),
         }
     }

@@ -1,8 +1,8 @@
 -- The worked examples hold: by computation, the loading factors by trying every interval from a release to a deadline.
-use Rattle.std.proofs.Common.{◌≡◌, ℕ, ◌-◌, ◌≤◌, Bool, true, false, not, ◌&&◌, List, [], ◌∷◌, length, refl, subst, arith}
-use Rattle.std.specs.List.{AllByRecursion}
-use Rattle.std.proofs.ByRecursion.{All-get_or, All-weaker}
-use Rattle.std.proofs.lemmas.Bool.{and_parts, not-true}
+use Rattle.std.proofs.Common.{◌≡◌, ℕ, ◌-◌, ◌≤◌, Bool, true, false, not, List, [], ◌∷◌, refl, slice_index_or, subst₂, arith}
+use Rattle.std.specs.List.{list_all}
+use Rattle.std.proofs.lemmas.Bool.{not-true}
+use Rattle.std.proofs.lemmas.List.Sums.{AllPass-from_list_all}
 use Rattle.cues.specs.declared.candidate.Candidate.{Candidate}
 use Rattle.cues.specs.Demand.{Job, demand}
 use Rattle.cues.specs.Loading.{SomeJob, Loading}
@@ -44,28 +44,12 @@ taped-ticks = (
   ((refl, ((refl, (refl, two_ticks)), ((refl, (refl, tt)), tt))), refl, refl),
 )
 
--- A test passes everywhere.
-abbrev every : {X : Type 0} → (X → Bool) → List X → Bool
-every test [] = true
-every test (x ∷ xs) = test x && every test xs
-
-all_from_every : {X : Type 0} (test : X → Bool) (xs : List X) → every test xs ≡ true → AllByRecursion (λ x. test x ≡ true) xs
-all_from_every test [] e = tt
-all_from_every test (x ∷ xs) e =
-    let both = and_parts (test x) (every test xs) e in
-    (both.0, all_from_every test xs both.1)
-
--- What holds of a number of every job holds of the one that some job has.
-of_some_job :
-    (f : Job → ℕ) (P : ℕ → Type 0) (j : Job) (js : List Job) (x : ℕ) → AllByRecursion (λ i. P (f i)) (j ∷ js) → SomeJob (λ i. f i ≡ x) (j ∷ js) → P x
-of_some_job f P j js x h (k, inside, is) = subst P (is j) (All-get_or (λ i. P (f i)) (j ∷ js) k j inside h)
-
 -- No interval from a release to a deadline is before this one.
 abbrev unbeaten_by : List Job → Candidate → Job → Job → Bool
 unbeaten_by js best i j = not (candidate_before (interval js i.release j.deadline) best)
 
 abbrev unbeaten : List Job → Candidate → Bool
-unbeaten js best = every (λ i. every (unbeaten_by js best i) js) js
+unbeaten js best = list_all (λ i. list_all (unbeaten_by js best i) js) js
 
 module _ (j : Job) (others : List Job) (best : Candidate) where
   abbrev js : List Job
@@ -77,33 +61,13 @@ module _ (j : Job) (others : List Job) (best : Candidate) where
       → SomeJob (λ i. i.release ≡ x) js
       → SomeJob (λ i. i.deadline ≡ y) js
       → candidate_before (interval js x y) best ≡ false
-  found-unbeaten e x y starts ends =
-      of_some_job
-      (λ i. i.release)
-      (λ x. candidate_before (interval js x y) best ≡ false)
-      j
-      others
-      x
-      (All-weaker
-      (λ i. every (unbeaten_by js best i) js ≡ true)
-      (λ i. candidate_before (interval js i.release y) best ≡ false)
-      (λ i h.
-      of_some_job
-      (λ k. k.deadline)
-      (λ y. candidate_before (interval js i.release y) best ≡ false)
-      j
-      others
-      y
-      (All-weaker
-      (λ k. unbeaten_by js best i k ≡ true)
-      (λ k. candidate_before (interval js i.release k.deadline) best ≡ false)
-      (λ k t. not-true (candidate_before (interval js i.release k.deadline) best) t)
-      js
-      (all_from_every (unbeaten_by js best i) js h))
-      ends)
-      js
-      (all_from_every (λ i. every (unbeaten_by js best i) js) js e))
-      starts
+  found-unbeaten e x y (k, inside, starts) (l, within, ends) =
+      let from = slice_index_or js k j in
+      let to = slice_index_or js l j in
+      let row : list_all (unbeaten_by js best from) js ≡ true =
+      AllPass-from_list_all (λ i. list_all (unbeaten_by js best i) js) js e k j inside in
+      let passes : unbeaten_by js best from to ≡ true = AllPass-from_list_all (unbeaten_by js best from) js row l j within in
+      subst₂ (λ x y. candidate_before (interval js x y) best ≡ false) (starts j) (ends j) (not-true _ passes)
 
   loading-by-trial :
       Timely js

@@ -67,7 +67,7 @@ fn answer<P: Policy, R: Renderer, T: Trace>(
     }
 }
 
-// Policy, renderer and trace are no struct: each has a clause of its own, and a tick borrows all three for one call only.
+// Policy, renderer and trace are no struct: each has a clause of its own, and a tick borrows all three for one call.
 /// Plays a list of calls, one after the other, on a fresh day, and gives that day and every call's answer.
 ///
 /// Of the whole list, over any rate table, policy and renderer, recorded or not, it promises the law: the day is never
