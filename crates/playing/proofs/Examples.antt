@@ -3,7 +3,7 @@ use Rattle.std.proofs.Common.{◌≡◌, ℕ, ◌-◌, ◌≤◌, Bool, true, fa
 use Rattle.std.specs.List.{list_all}
 use Rattle.std.proofs.lemmas.Bool.{not-true}
 use Rattle.std.proofs.lemmas.List.Sums.{AllPass-from_list_all}
-use Rattle.cues.specs.declared.candidate.Candidate.{Candidate}
+use Rattle.cues.specs.declared.load.Load.{Load}
 use Rattle.cues.specs.Demand.{Job, demand}
 use Rattle.cues.specs.Loading.{SomeJob, Loading}
 use Rattle.cues.specs.Orders.{candidate_before}
@@ -45,13 +45,13 @@ taped-ticks = (
 )
 
 -- No interval from a release to a deadline is before this one.
-abbrev unbeaten_by : List Job → Candidate → Job → Job → Bool
+abbrev unbeaten_by : List Job → Load → Job → Job → Bool
 unbeaten_by js best i j = not (candidate_before (interval js i.release j.deadline) best)
 
-abbrev unbeaten : List Job → Candidate → Bool
+abbrev unbeaten : List Job → Load → Bool
 unbeaten js best = list_all (λ i. list_all (unbeaten_by js best i) js) js
 
-module _ (j : Job) (others : List Job) (best : Candidate) where
+module _ (j : Job) (others : List Job) (best : Load) where
   abbrev js : List Job
   js = j ∷ others
 
@@ -80,7 +80,7 @@ module _ (j : Job) (others : List Job) (best : Candidate) where
   loading-by-trial timely starts ends long short e =
       greatest-from-unbeaten j others timely best starts ends long short (λ x y _. found-unbeaten e x y)
 
-abbrev share_of : ℕ → ℕ → ℕ → ℕ → Candidate
+abbrev share_of : ℕ → ℕ → ℕ → ℕ → Load
 share_of demand length start end = record { demand = demand; length = length; start = start; end = end }
 
 loading_factors : LoadingFactors
