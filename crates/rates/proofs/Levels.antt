@@ -1,7 +1,9 @@
 -- Facts about the levels of a lawful table, and about the answers of policies.
-use Rattle.std.proofs.Common.{◌≡◌, ℕ, zero, suc, ◌+◌, ◌-◌, ◌*◌, ◌<◌, ◌≤◌, true, false, leb, List, [], ◌∷◌, length, get_or, drop, Some, None, Option, refl, ◌∙◌, subst, ⊎_elim, add-zero, mul-le-mul_right, arith}
-use Rattle.std.proofs.lemmas.List.{at_drop_more}
-use Rattle.std.proofs.lemmas.Bool.{cond-true, cond-false, cond_both, leb-true, leb-false, cases_lt}
+use Rattle.std.proofs.Common.{◌≡◌, ℕ, zero, suc, ◌+◌, ◌-◌, ◌*◌, ◌<◌, ◌≤◌, true, false, leb, List, [], ◌∷◌, length, get_or, cond, Some, None, Option, refl, sym, ap, ◌∙◌, subst, ⊎_elim, add-zero, mul-le-mul_right, arith}
+use Rattle.std.proofs.lemmas.Iterator.Adapters.{position_from-zero}
+use Rattle.std.proofs.lemmas.Bool.{cond_both, leb-true, leb-false, cases_lt}
+use Rattle.std.specs.List.{position, position_from}
+use Rattle.std.specs.Option.{option_map}
 use Rattle.rates.proofs.FirstPlace.{Found, found_later, found_first}
 use Rattle.rates.specs.Lawful.{Lawful, Rising}
 use Rattle.rates.specs.Policy.{Sufficient, Answers, Exact, Lowest, least, least_from}
@@ -96,16 +98,36 @@ answers_from_lowest rates remaining ticks None lawful none =
     (cases_lt (top_rate rates * ticks) remaining)
 answers_from_lowest rates remaining ticks (Some level) lawful lowest = lowest.0
 
--- The search for the least level stops at a rate that is enough.
-pub least-stops :
-    (level : ℕ) (rates : List ℕ) (remaining ticks i : ℕ) → i < length rates → leb remaining (get_or rates i 0 * ticks) ≡ true →
-    least_from level (drop i rates) remaining ticks ≡ Some level
-least-stops level rates remaining ticks i h enough =
-    at_drop_more (λ left. least_from level left remaining ticks) rates i 0 h ∙ cond-true _ _ _ enough
+-- Counted from a level on, it is the level of the first rate that is enough.
+first_level :
+    (start : ℕ) (rates : List ℕ) (remaining ticks : ℕ) →
+    option_map (λ place. place + 1) (position_from (λ rate. leb remaining (rate * ticks)) start rates) ≡ least_from (start + 1) rates remaining ticks
+first_level start [] remaining ticks = refl
+first_level start (rate ∷ rates) remaining ticks =
+    elim (leb remaining (rate * ticks)) as (λ enough. option_map (λ place. place + 1) (cond enough (Some start) (position_from (λ r. leb remaining (r * ticks)) (start + 1) rates)) ≡ cond enough (Some (start + 1)) (least_from (start + 1 + 1) rates remaining ticks)) [
+      | true ↦ refl
+      | false ↦ first_level (start + 1) rates remaining ticks
+    ]
 
--- It goes on past one that is not.
-pub least-goes_on :
-    (level : ℕ) (rates : List ℕ) (remaining ticks i : ℕ) → i < length rates → leb remaining (get_or rates i 0 * ticks) ≡ false →
-    least_from level (drop i rates) remaining ticks ≡ least_from (level + 1) (drop (i + 1) rates) remaining ticks
-least-goes_on level rates remaining ticks i h slow =
-    at_drop_more (λ left. least_from level left remaining ticks) rates i 0 h ∙ cond-false _ _ _ slow
+-- The least level is that of the first rate that is enough.
+least-is_first :
+    (rates : List ℕ) (remaining ticks : ℕ) →
+    option_map (λ place. place + 1) (position (λ rate. leb remaining (rate * ticks)) rates) ≡ least rates remaining ticks
+least-is_first rates remaining ticks =
+    ap (option_map (λ place. place + 1)) (position_from-zero (λ rate. leb remaining (rate * ticks)) rates) ∙ first_level 0 rates remaining ticks
+
+-- What an answer tells that is the least level.
+pub record LeastOf (rates : List ℕ) (remaining ticks : ℕ) (answer : Option ℕ) : Type 0 where
+  pub exact : answer ≡ least rates remaining ticks
+  pub meaning : Answers rates remaining ticks answer
+  pub lowest : Lowest rates remaining ticks answer
+
+-- The level of the first rate of a lawful table that is enough is such an answer.
+pub least_found :
+    (rates : List ℕ) (remaining ticks : ℕ) (place : Option ℕ) → Lawful rates → place ≡ position (λ rate. leb remaining (rate * ticks)) rates →
+    LeastOf rates remaining ticks (option_map (λ p. p + 1) place)
+least_found rates remaining ticks place lawful found =
+    let exact : option_map (λ p. p + 1) place ≡ least rates remaining ticks =
+    ap (option_map (λ p. p + 1)) found ∙ least-is_first rates remaining ticks in
+    let lowest = subst (Lowest rates remaining ticks) (sym exact) (least-is_lowest rates remaining ticks) in
+    record { exact = exact; meaning = answers_from_lowest rates remaining ticks _ lawful lowest; lowest = lowest }

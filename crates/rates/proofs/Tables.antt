@@ -1,7 +1,7 @@
 -- Facts about judging a list of rates, and about the tables that come of it.
-use Rattle.std.proofs.Common.{◌≡◌, ℕ, zero, suc, ◌+◌, ◌<◌, ◌≤◌, true, false, ◌&&◌, ltb, leb, List, [], ◌∷◌, length, get_or, take, drop, Some, None, Option, refl, ◌∙◌, subst, inl, inr, ⊎_elim, add-one, sub-one, arith}
-use Rattle.std.proofs.lemmas.List.{at_drop_more, length-take-le}
-use Rattle.std.proofs.lemmas.Bool.{cond-true, cond-false, cond_both, ltb-true, leb-true, leb-false, and_cases, and_parts}
+use Rattle.std.proofs.Common.{◌≡◌, ℕ, zero, suc, ◌+◌, ◌<◌, ◌≤◌, false, ◌&&◌, ltb, leb, List, [], ◌∷◌, length, get_or, take, Some, None, Option, refl, subst, inl, inr, ⊎_elim, add-one, sub-one, arith}
+use Rattle.std.proofs.lemmas.List.{length-take-le}
+use Rattle.std.proofs.lemmas.Bool.{cond_both, ltb-true, leb-true, leb-false, and_cases, and_parts}
 use Rattle.std.proofs.lemmas.Bool.Decides.{nat_tests}
 use Rattle.std.specs.Option.{option_map}
 use Rattle.rates.proofs.FirstPlace.{Found, found_later, found_first}
@@ -10,20 +10,6 @@ use Rattle.rates.specs.Lawful.{Lawful, Good}
 use Rattle.rates.specs.Table.{rates_of}
 use Rattle.rates.specs.declared.table.RateTable.{RateTable}
 use Rattle.rates.specs.declared.refusal.TableRefusal.TheVariants.{WrongLevelCount, WrongRateAt}
-
--- Judging stops at a rate that is too low or too high.
-pub first-wrong_stops :
-    (before place : ℕ) (rates : List ℕ) (i : ℕ) → i < length rates → (ltb before (get_or rates i 0) && leb (get_or rates i 0) 4095) ≡ false →
-    first_wrong before place (drop i rates) ≡ Some place
-first-wrong_stops before place rates i h wrong =
-    at_drop_more (first_wrong before place) rates i 0 h ∙ cond-false _ _ _ wrong
-
--- Judging goes on past a rate that is above the one before and not too high.
-pub first-wrong_goes_on :
-    (before place : ℕ) (rates : List ℕ) (i : ℕ) → i < length rates → (ltb before (get_or rates i 0) && leb (get_or rates i 0) 4095) ≡ true →
-    first_wrong before place (drop i rates) ≡ first_wrong (get_or rates i 0) (place + 1) (drop (i + 1) rates)
-first-wrong_goes_on before place rates i h good =
-    at_drop_more (first_wrong before place) rates i 0 h ∙ cond-true _ _ _ good
 
 -- The rate at a place, from 0, is above the one before it, `before` for the first, and not too high.
 abbrev RisesAt : ℕ → List ℕ → ℕ → Type 0

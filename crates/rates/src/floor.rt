@@ -8,6 +8,7 @@ use crate::least::Least;
 use crate::level::Level;
 use crate::policy::{Policy, choose_level};
 use crate::table::RateTable;
+use crate::work::Work;
 
 /// Answers the larger of a fixed level and what the inner policy answers, and none where that answers none. A fixed
 /// level that the table does not reach counts as the table's last, and level 0 never raises the answer.
@@ -37,11 +38,9 @@ fn raised(fixed: Level, table: &RateTable, answer: Level) -> Level
 impl<P: Policy> Policy for Floor<P> {
     ghost tells = { λ before rates remaining ticks answer after. (before.level ≡ after.level) × ((inner : Option ℕ) × (P.Policy.tells before.inner rates remaining ticks inner after.inner) × (answer ≡ floored before.level.0 rates inner)) };
 
-    fn choose(&mut self, table: &RateTable, remaining: u32, ticks: u32) -> Option<Level> {
-        match self.inner.choose(table, remaining, ticks) {
-            Some(answer) => Some(raised(self.level, table, answer)),
-            None => None,
-        }
+    fn choose(&mut self, table: &RateTable, work: Work) -> Option<Level> {
+        let answer = self.inner.choose(table, work)?;
+        Some(raised(self.level, table, answer))
     }
 }
 
@@ -50,11 +49,10 @@ pub fn twice_floored_least(
     outer: Level,
     inner: Level,
     table: &RateTable,
-    remaining: u32,
-    ticks: u32,
+    work: Work,
 ) -> Option<Level>
-    ensures { numbered result ≡ floored outer.0 (rates_of table.now) (floored inner.0 (rates_of table.now) (least (rates_of table.now) remaining ticks)) }
+    ensures { numbered result ≡ floored outer.0 (rates_of table.now) (floored inner.0 (rates_of table.now) (least (rates_of table.now) work.remaining work.ticks)) }
 {
     let mut policy = Floor::new(outer, Floor::new(inner, Least));
-    choose_level(&mut policy, table, remaining, ticks)
+    choose_level(&mut policy, table, work)
 }

@@ -11,6 +11,7 @@ mod table;
 #[cfg(test)]
 mod tests;
 mod top;
+mod work;
 
 pub use floor::{Floor, twice_floored_least};
 pub use least::{Least, least_examples, least_level};
@@ -19,3 +20,4 @@ pub use policy::{Policy, choose_level};
 pub use refusal::TableRefusal;
 pub use table::RateTable;
 pub use top::Top;
+pub use work::Work;

@@ -1,12 +1,13 @@
-//! What it is to be a policy. Whoever runs work asks one for a level, given the table, the units that remain and the
-//! ticks that are left for them, and is told one that is fast enough, or that there is none.
+//! What it is to be a policy. Whoever runs work asks one for a level, given the table and the work that is left, and
+//! is told one that is fast enough, or that there is none.
 
-ghost use Rattle.std.specs.Prelude.{◌≡◌, ℕ, ◌*◌, List, Option, nat_le};
+ghost use Rattle.std.specs.Prelude.{◌≡◌, ℕ, List, Option};
 ghost use Rattle.rates.specs.Policy.{Answers, Exact, numbered};
 ghost use Rattle.rates.specs.Table.{rates_of};
 
 use crate::level::Level;
 use crate::table::RateTable;
+use crate::work::Work;
 
 /// A way to pick a level. It may keep a state and choose differently next time.
 pub trait Policy {
@@ -16,35 +17,23 @@ pub trait Policy {
 
     /// A level of the table whose rate times the ticks is at least what remains, and none exactly when the top rate
     /// is too slow for it.
-    fn choose(&mut self, table: &RateTable, remaining: u32, ticks: u32) -> Option<Level>
-        ensures meaning { Answers (rates_of table.now) remaining ticks (numbered result) }
-        ensures told { tells self.old (rates_of table.now) remaining ticks (numbered result) self.new };
+    fn choose(&mut self, table: &RateTable, work: Work) -> Option<Level>
+        ensures meaning { Answers (rates_of table.now) work.remaining work.ticks (numbered result) }
+        ensures told { tells self.old (rates_of table.now) work.remaining work.ticks (numbered result) self.new };
 }
 
 /// Says what a policy's meaning comes to for an answer that keeps to it; nothing runs.
-fn answer_is_exact(table: &RateTable, remaining: u32, ticks: u32, answer: Option<Level>)
-    requires { Answers (rates_of table.now) remaining ticks (numbered answer) }
-    ensures { Exact (rates_of table.now) remaining ticks (numbered answer) }
+fn answer_is_exact(table: &RateTable, work: Work, answer: Option<Level>)
+    requires { Answers (rates_of table.now) work.remaining work.ticks (numbered answer) }
+    ensures { Exact (rates_of table.now) work.remaining work.ticks (numbered answer) }
 {}
 
 /// Asks a policy of any kind for a level: none exactly when the top rate is too slow.
-pub fn choose_level<P: Policy>(
-    policy: &mut P,
-    table: &RateTable,
-    remaining: u32,
-    ticks: u32,
-) -> Option<Level>
-    ensures exact { Exact (rates_of table.now) remaining ticks (numbered result) }
-    ensures told { P.Policy.tells policy.old (rates_of table.now) remaining ticks (numbered result) policy.new }
+pub fn choose_level<P: Policy>(policy: &mut P, table: &RateTable, work: Work) -> Option<Level>
+    ensures exact { Exact (rates_of table.now) work.remaining work.ticks (numbered result) }
+    ensures told { P.Policy.tells policy.old (rates_of table.now) work.remaining work.ticks (numbered result) policy.new }
 {
-    let answer = policy.choose(table, remaining, ticks);
-    answer_is_exact(table, remaining, ticks, answer);
+    let answer = policy.choose(table, work);
+    answer_is_exact(table, work, answer);
     answer
-}
-
-/// Whether the remaining units are done within the ticks at this rate.
-pub(crate) fn is_enough(rate: u32, remaining: u32, ticks: u32) -> bool
-    ensures { result ≡ nat_le remaining (rate * ticks) }
-{
-    u64::from(remaining) <= u64::from(rate) * u64::from(ticks)
 }

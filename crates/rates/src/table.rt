@@ -9,6 +9,7 @@ ghost use Rattle.rates.specs.Lawful.{Positive, Limited, Rising};
 const MOST_LEVELS: usize = 16;
 
 /// 1 to 16 rates in units per tick, each 1 to 4,095 and above the one before. No other table exists.
+// A fixed array with its count: a table is Copy, which a list of the library that keeps its own length is not.
 #[derive(Clone, Copy)]
 pub struct RateTable {
     rates: [u32; MOST_LEVELS],

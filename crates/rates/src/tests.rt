@@ -7,10 +7,15 @@ use crate::policy::choose_level;
 use crate::refusal::TableRefusal;
 use crate::table::RateTable;
 use crate::top::Top;
+use crate::work::Work;
 use std::test::Fail;
 
 fn worked_table() -> Result<RateTable, TableRefusal> {
     RateTable::new(&[7, 10, 12, 14])
+}
+
+fn work(remaining: u32, ticks: u32) -> Work {
+    Work { remaining, ticks }
 }
 
 fn refusal(rates: &[u32]) -> Option<TableRefusal> {
@@ -20,19 +25,31 @@ fn refusal(rates: &[u32]) -> Option<TableRefusal> {
 #[test]
 fn least_is_the_lowest_sufficient_level(rt: HostRuntime) -> Result<(), Fail> {
     let table = worked_table()?;
-    assert_eq!(rt; choose_level(&mut Least, &table, 84, 7), Some(Level(3)));
-    assert_eq!(rt; choose_level(&mut Least, &table, 85, 7), Some(Level(4)));
-    assert_eq!(rt; choose_level(&mut Least, &table, 98, 7), Some(Level(4)));
-    assert_eq!(rt; choose_level(&mut Least, &table, 99, 7), None);
-    assert_eq!(rt; choose_level(&mut Least, &table, 0, 0), Some(Level(1)));
+    assert_eq!(rt;
+        choose_level(&mut Least, &table, work(84, 7)),
+        Some(Level(3))
+    );
+    assert_eq!(rt;
+        choose_level(&mut Least, &table, work(85, 7)),
+        Some(Level(4))
+    );
+    assert_eq!(rt;
+        choose_level(&mut Least, &table, work(98, 7)),
+        Some(Level(4))
+    );
+    assert_eq!(rt; choose_level(&mut Least, &table, work(99, 7)), None);
+    assert_eq!(rt;
+        choose_level(&mut Least, &table, work(0, 0)),
+        Some(Level(1))
+    );
     Ok(())
 }
 
 #[test]
 fn top_is_the_last_level_or_none(rt: HostRuntime) -> Result<(), Fail> {
     let table = worked_table()?;
-    assert_eq!(rt; choose_level(&mut Top, &table, 98, 7), Some(Level(4)));
-    assert_eq!(rt; choose_level(&mut Top, &table, 99, 7), None);
+    assert_eq!(rt; choose_level(&mut Top, &table, work(98, 7)), Some(Level(4)));
+    assert_eq!(rt; choose_level(&mut Top, &table, work(99, 7)), None);
     Ok(())
 }
 
@@ -65,27 +82,27 @@ fn the_first_wrong_rate_is_named(rt: HostRuntime) {
 fn a_floor_raises_the_answer_as_far_as_the_table_goes(rt: HostRuntime) -> Result<(), Fail> {
     let table = worked_table()?;
     assert_eq!(rt;
-        choose_level(&mut Floor::new(Level(2), Least), &table, 1, 7),
+        choose_level(&mut Floor::new(Level(2), Least), &table, work(1, 7)),
         Some(Level(2))
     );
     assert_eq!(rt;
-        choose_level(&mut Floor::new(Level(2), Least), &table, 84, 7),
+        choose_level(&mut Floor::new(Level(2), Least), &table, work(84, 7)),
         Some(Level(3))
     );
     assert_eq!(rt;
-        choose_level(&mut Floor::new(Level(9), Least), &table, 1, 7),
+        choose_level(&mut Floor::new(Level(9), Least), &table, work(1, 7)),
         Some(Level(4))
     );
     assert_eq!(rt;
-        choose_level(&mut Floor::new(Level(9), Least), &table, 99, 7),
+        choose_level(&mut Floor::new(Level(9), Least), &table, work(99, 7)),
         None
     );
     assert_eq!(rt;
-        twice_floored_least(Level(2), Level(3), &table, 1, 7),
+        twice_floored_least(Level(2), Level(3), &table, work(1, 7)),
         Some(Level(3))
     );
     assert_eq!(rt;
-        twice_floored_least(Level(0), Level(0), &table, 1, 7),
+        twice_floored_least(Level(0), Level(0), &table, work(1, 7)),
         Some(Level(1))
     );
     Ok(())

@@ -4,8 +4,9 @@ ghost use Rattle.std.specs.Prelude.{◌≡◌};
 ghost use Rattle.rates.specs.Policy.{last};
 
 use crate::level::Level;
-use crate::policy::{Policy, is_enough};
+use crate::policy::Policy;
 use crate::table::RateTable;
+use crate::work::Work;
 
 /// Answers the last level of the table.
 #[derive(Clone, Copy)]
@@ -14,11 +15,7 @@ pub struct Top;
 impl Policy for Top {
     ghost tells = { λ _ rates remaining ticks answer _. answer ≡ last rates remaining ticks };
 
-    fn choose(&mut self, table: &RateTable, remaining: u32, ticks: u32) -> Option<Level> {
-        if is_enough(table.top_rate(), remaining, ticks) {
-            Some(table.top())
-        } else {
-            None
-        }
+    fn choose(&mut self, table: &RateTable, work: Work) -> Option<Level> {
+        work.is_done_at(table.top_rate()).then_some(table.top())
     }
 }

@@ -1,12 +1,7 @@
 -- Reading a tape, one word a request.
-use Rattle.std.proofs.Common.{◌≡◌, ℕ, zero, suc, ◌≤◌, List, [], ◌∷◌, length, get_or, drop, refl, ap, ◌∙◌, one-add, arith}
+use Rattle.std.proofs.Common.{ℕ, zero, suc, List, [], ◌∷◌, drop, ap, ◌∙◌, one-add, arith}
 use Rattle.std.proofs.lemmas.List.{drop-drop}
-use Rattle.renderers.specs.Tape.{said, next, EachByItsWord}
-
--- the next answer is what the word in front says
-pub next-is_said : (words : List ℕ) → 1 ≤ length words → said (get_or words 0 0) ≡ next words
-next-is_said [] some = absurd (omega arith)
-next-is_said (word ∷ words) some = refl
+use Rattle.renderers.specs.Tape.{next, EachByItsWord}
 
 pub each_by_its_word : (words : List ℕ) → EachByItsWord words
 each_by_its_word words [] after turns n l = absurd (omega arith)

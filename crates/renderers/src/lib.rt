@@ -5,6 +5,7 @@
 
 pub mod answer;
 pub mod heard;
+pub mod noted;
 mod order;
 pub mod play;
 pub mod renderer;

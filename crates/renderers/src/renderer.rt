@@ -18,6 +18,7 @@ pub trait Renderer {
     ghost tells: { Self → ℕ → ℕ → Answer → Self → Type 0 } = { λ _ _ _ _ _. Unit {0} };
 
     /// Plays the job for one tick at the rate.
+    // Two numbers and no struct of them: each renderer and each clause would only take it apart again.
     fn run(&mut self, job: u32, rate: u32) -> Answer
         ensures meaning { meaning self.new ≡ heard (meaning self.old) job rate result }
         ensures told { tells self.old job rate result self.new };

@@ -2,54 +2,39 @@
 //! the payload's remainder by 65,536 as its code, any other kind running, and running past the end of the tape.
 
 ghost use Rattle.std.specs.Prelude.{◌≡◌};
-ghost use Rattle.renderers.specs.Requests.{fresh, latest};
+ghost use Rattle.renderers.specs.Requests.{fresh};
 ghost use Rattle.renderers.specs.Tape.{said, Read, EachByItsWord};
 
 use crate::answer::Answer;
-use crate::heard::Heard;
-use crate::renderer::Renderer;
+use crate::noted::{Answers, Noted};
 use words::{Kind, kind_of, payload_of};
 
-/// The words that are still to come, whatever the length of the tape, and the requests so far.
+/// The words that are still to come, whatever the length of the tape.
 #[derive(Clone, Copy)]
-pub struct AnswerTape<'a> {
+pub struct Tape<'a> {
     coming: &'a [u32],
-    noted: Heard,
 }
+
+/// A tape, and the requests so far.
+pub type AnswerTape<'a> = Noted<Tape<'a>>;
 
 impl<'a> AnswerTape<'a> {
     /// A tape at its first word, before the first request.
     pub fn over(words: &'a [u32]) -> AnswerTape<'a>
-        ensures tape { result.coming.now ≡ words.now }
+        ensures tape { result.answers.coming.now ≡ words.now }
         ensures meaning { result.noted ≡ fresh }
         ensures law { EachByItsWord words.now }
     {
         each_by_its_word(words);
-        AnswerTape {
-            coming: words,
-            noted: Heard::nothing(),
-        }
+        Noted::fresh(Tape { coming: words })
     }
+}
 
-    /// How many requests it has had, held at 4,294,967,295.
-    pub fn requests(&self) -> u32
-        ensures { result ≡ self.now.noted.requests }
-    {
-        self.noted.requests
-    }
+impl<'a> Answers for Tape<'a> {
+    ghost tells = { λ before _ _ answer after. Read before.coming.now answer after.coming.now };
 
-    /// The latest request and its answer: job 0 at rate 0, running, before the first.
-    pub fn latest(&self) -> (u32, u32, Answer)
-        ensures { result ≡ latest self.now.noted }
-    {
-        self.noted.latest()
-    }
-
-    // Reads the next word.
-    fn turn(&mut self) -> Answer
-        ensures read { Read self.old.coming.now result self.new.coming.now }
-        ensures noted { self.new.noted ≡ self.old.noted }
-    {
+    /// Reads the next word.
+    fn answer(&mut self, _job: u32, _rate: u32) -> Answer {
         match self.coming {
             [word, rest @ ..] => {
                 self.coming = rest;
@@ -57,18 +42,6 @@ impl<'a> AnswerTape<'a> {
             }
             [] => Answer::Running,
         }
-    }
-}
-
-impl<'a> Renderer for AnswerTape<'a> {
-    ghost meaning = { λ s. s.noted };
-
-    ghost tells = { λ before _ _ answer after. Read before.coming.now answer after.coming.now };
-
-    fn run(&mut self, job: u32, rate: u32) -> Answer {
-        let answer = self.turn();
-        self.noted.note(job, rate, answer);
-        answer
     }
 }
 
@@ -83,7 +56,7 @@ pub fn answer_of(word: u32) -> Answer
     }
 }
 
-// There is nothing to run: reading in turn already gives each request its own word, and this says so.
+/// There is nothing to run: reading in turn already gives each request its own word, and this says so.
 fn each_by_its_word(words: &[u32])
     ensures { EachByItsWord words.now }
 {}

@@ -27,17 +27,17 @@ fn first_wrong_rate(rates: &[u32]) -> Option<usize>
     None
 }
 
-/// What is first wrong with the rates: their count, then a rate.
-fn refusal_of(rates: &[u32]) -> Option<TableRefusal>
-    ensures { result ≡ judged rates.now }
+/// Refuses rates of which something is wrong: first their count, then a rate.
+fn check(rates: &[u32]) -> Result<(), TableRefusal>
+    ensures { result_err result ≡ judged rates.now }
 {
     let count = rates.len();
     if count == 0 || count > MOST_LEVELS {
-        return Some(TableRefusal::WrongLevelCount(count));
+        return Err(TableRefusal::WrongLevelCount(count));
     }
     match first_wrong_rate(rates) {
-        Some(place) => Some(TableRefusal::WrongRateAt(place)),
-        None => None,
+        Some(place) => Err(TableRefusal::WrongRateAt(place)),
+        None => Ok(()),
     }
 }
 
@@ -58,13 +58,11 @@ impl RateTable {
         ensures verdict { Verdict rates.now (result_err result) }
         ensures rates { IfOk result (λ table. rates_of table ≡ rates.now) }
     {
-        match refusal_of(rates) {
-            Some(refusal) => Err(refusal),
-            None => Ok(RateTable {
-                rates: padded(rates),
-                count: rates.len(),
-            }),
-        }
+        check(rates)?;
+        Ok(RateTable {
+            rates: padded(rates),
+            count: rates.len(),
+        })
     }
 
     /// How many levels the table has.
@@ -86,12 +84,8 @@ impl RateTable {
     pub fn rate(&self, level: Level) -> Option<u32>
         ensures { result ≡ rate_at (rates_of self.now) level.0 }
     {
-        let rates = self.as_slice();
-        let number = level.0 as usize;
-        if number == 0 || number > rates.len() {
-            return None;
-        }
-        Some(rates[number - 1])
+        let place = level.0.checked_sub(1)?;
+        self.as_slice().get(place as usize).copied()
     }
 
     /// The last level.

@@ -6,5 +6,5 @@ use Rattle.rates.proofs.policy.answer_is_exact.Goals as goal
 
 pub returns : goal.returns
 returns c =
-    exact_from_answers (rates_of c.args.table.now) c.args.remaining c.args.ticks (numbered c.args.answer)
+    exact_from_answers (rates_of c.args.table.now) c.args.work.remaining c.args.work.ticks (numbered c.args.answer)
     (table_is_lawful c.args.table.now) c.requires

@@ -1,39 +1,37 @@
-use Rattle.std.proofs.Common.{[], ◌∷◌, ◌++◌, map, get_or, vec_items, sym, ap, ◌∙◌, subst}
-use Rattle.std.proofs.lemmas.List.{map_more, take_all}
+use Rattle.std.proofs.Common.{◌≡◌, ◌<◌, List, length, map, vec_items, sym, subst, rules, tests}
+use Rattle.std.proofs.lemmas.Result.{IfOk-weaker}
+use Rattle.std.proofs.lemmas.Iterator.{items_from_collect, YieldsList-from_map, YieldsList-from_slice}
+use Rattle.std.proofs.lemmas.Iterator.Adapters.{serves_from_places}
+use Rattle.cues.specs.declared.cue.Cue.{Cue}
 use Rattle.cues.specs.declared.waiting.WaitingCue.{WaitingCue}
 use Rattle.renderers.specs.declared.play.Play.{Play}
 use Rattle.renderers.specs.Order.{actual_at, ByRelease, Numbered}
-use Rattle.renderers.specs.Sheet.{fresh_play}
+use Rattle.renderers.specs.Sheet.{fresh_play, FinishedWhenReached}
 use Rattle.renderers.proofs.Sums.{finished_when_reached}
 use Rattle.renderers.proofs.Waits.{place-within}
 use Rattle.renderers.proofs.sheet.fresh_plays.Goals as goal
 
-pub fresh_play-requires : goal.fresh_play-requires
-fresh_play-requires c =
-    let jobs = c.as_slice-jobs.result.now in
-    let by : ByRelease c.args.cues.now jobs = subst (ByRelease c.args.cues.now) (sym c.as_slice-jobs.ensures.value) c.in_ok-order.ensures in
-    place-within c.args.cues.now jobs c.loop-waiting.waiting-index (record { release = 0; place = 0 }) by c.loop-waiting-test.true
-
-pub loop-waiting-preserved : goal.loop-waiting-preserved
-loop-waiting-preserved c =
+pub collect-requires-clause-can : goal.collect-requires-clause-can
+collect-requires-clause-can c =
     let cues = c.args.cues.now in
-    let jobs = c.as_slice-jobs.result.now in
-    let k = c.loop-waiting.waiting-index in
-    let play : WaitingCue → Play = λ waiting. fresh_play (actual_at cues waiting.place) in
-    c.in_ok-push.ensures.items
-    ∙ ap (λ p. vec_items c.loop-waiting.plays ++ p ∷ []) c.fresh_play.ensures
-    ∙ ap (λ ps. ps ++ play (get_or jobs k (record { release = 0; place = 0 })) ∷ []) c.loop-waiting.invariant
-    ∙ sym (map_more play jobs k (record { release = 0; place = 0 }) c.loop-waiting-test.true)
+    let order = c.in_ok-order.order.items in (
+      tt,
+      serves_from_places (YieldsList-from_slice order cc) (λ x q k. search (rules, tests))
+          (λ x k l at.
+          let within : x.now.place < length cues =
+          subst (λ (w : WaitingCue). w.place < length cues) (sym at) (place-within cues order k x.now c.in_ok-order.ensures l) in
+          search rules),
+    )
+
+numbered :
+    (cues : List Cue) (order : List WaitingCue) (plays : List Play) → ByRelease cues order
+    → plays ≡ map (λ waiting. fresh_play (actual_at cues waiting.place)) order → Numbered cues plays × FinishedWhenReached plays
+numbered cues order plays by is = (record { order = order; by_release = by; plays_are = is }, finished_when_reached plays)
 
 pub returns : goal.returns
 returns c =
     let cues = c.args.cues.now in
-    let jobs = c.as_slice-jobs.result.now in
-    let play : WaitingCue → Play = λ waiting. fresh_play (actual_at cues waiting.place) in
-    let numbered : Numbered cues (vec_items c.loop-waiting.plays) =
-    record {
-      order = jobs;
-      by_release = subst (ByRelease cues) (sym c.as_slice-jobs.ensures.value) c.in_ok-order.ensures;
-      plays_are = c.loop-waiting.invariant ∙ ap (map play) (take_all c.loop-waiting.waiting-index jobs c.loop-waiting-test.false);
-    } in
-    (numbered, finished_when_reached (vec_items c.loop-waiting.plays))
+    let order = c.in_ok-order.order.items in
+    IfOk-weaker _ _ _ (λ plays is. numbered cues order (vec_items plays) c.in_ok-order.ensures is)
+    (items_from_collect _ c.collect.ensures.ran
+    (YieldsList-from_map _ (λ waiting. fresh_play (actual_at cues waiting.place)) (YieldsList-from_slice order cc) c.map.ensures.closure (λ x r q k. search (rules, tests))))
