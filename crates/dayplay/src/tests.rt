@@ -4,6 +4,7 @@ use crate::rehearsal::Rehearsal;
 use calls::call::{Call, Reply};
 use calls::refusal::Refusal;
 use calls::ticked::{Ending, Ran, Switch, Ticked, Turn};
+use cues::refusal::CueRefusal;
 use rates::Level;
 use renderers::answer::Answer;
 use script::{Script, ScriptError, read_script};
@@ -102,7 +103,7 @@ fn a_rehearsal_is_told_line_by_line(rt: HostRuntime) -> Result<(), Fail> {
         Reply::Released(3),
         Reply::Ticked(Ticked::Ran(ran)),
         Reply::Ticked(Ticked::Idle),
-        Reply::Refused(Refusal::Deadline { deadline: 1 }),
+        Reply::Refused(Refusal::Job(CueRefusal::Deadline { deadline: 1 })),
     ]?;
     let rehearsal = Rehearsal {
         replies,
