@@ -1,10 +1,10 @@
 -- Facts about the levels of a lawful table, and about the answers of policies.
-use Rattle.std.proofs.Common.{◌≡◌, ℕ, zero, suc, ◌+◌, ◌-◌, ◌*◌, ◌<◌, ◌≤◌, true, false, leb, List, [], ◌∷◌, length, get_or, cond, Some, None, Option, refl, sym, ap, ◌∙◌, subst, ⊎_elim, add-zero, mul-le-mul_right, arith}
+use Rattle.std.proofs.Common.{◌≡◌, ℕ, zero, suc, ◌+◌, ◌-◌, ◌*◌, ◌<◌, ◌≤◌, Bool, true, false, not, ltb, leb, List, [], ◌∷◌, length, get_or, cond, Some, None, Option, refl, sym, ap, ◌∙◌, subst, ⊎_elim, add-zero, add-one, sub-one, mul-le-mul_right, arith}
 use Rattle.std.proofs.lemmas.Iterator.Adapters.{position_from-zero}
-use Rattle.std.proofs.lemmas.Bool.{cond_both, leb-true, leb-false, cases_lt}
-use Rattle.std.specs.List.{position, position_from}
+use Rattle.std.proofs.lemmas.Bool.{cond_both, not-true, not-false, ltb-true, ltb-false, leb-true, leb-false, cases_lt}
+use Rattle.std.proofs.lemmas.List.Sums.{prefix_len_passes, prefix_len_stops}
+use Rattle.std.specs.List.{position, position_from, prefix_len}
 use Rattle.std.specs.Option.{option_map}
-use Rattle.rates.proofs.FirstPlace.{Found, found_later, found_first}
 use Rattle.rates.specs.Lawful.{Lawful, Rising}
 use Rattle.rates.specs.Policy.{Sufficient, Answers, Exact, Lowest, least, least_from}
 use Rattle.rates.specs.Table.{rate_of, top_rate}
@@ -52,42 +52,6 @@ exact_from_answers rates remaining ticks (Some level) lawful sufficient =
       sufficient = λ other named. let same : level ≡ other = cc in subst (Sufficient rates remaining ticks) same sufficient;
     }
 
--- The rate at a place, from 0, is too slow.
-abbrev TooSlow : List ℕ → ℕ → ℕ → ℕ → Type 0
-TooSlow rates remaining ticks place = get_or rates place 0 * ticks < remaining
-
--- The search for the least level finds the first place that is not too slow.
-found :
-    (start : ℕ) (rates : List ℕ) (remaining ticks : ℕ) →
-    Found (TooSlow rates remaining ticks) (length rates) start (least_from start rates remaining ticks)
-found start [] remaining ticks = λ k h. absurd (omega arith)
-found start (rate ∷ rates) remaining ticks =
-    let P : ℕ → Type 0 = TooSlow (rate ∷ rates) remaining ticks in
-    cond_both (leb remaining (rate * ticks)) (Some start) (least_from (start + 1) rates remaining ticks) (Found P (suc (length rates)) start)
-    (λ enough. found_first P (length rates) start (λ slow. omega (arith, leb-true _ _ enough)))
-    (λ slow. found_later P (length rates) start (leb-false _ _ slow) _ (found (start + 1) rates remaining ticks))
-
-lowest_from_found :
-    (rates : List ℕ) (remaining ticks : ℕ) (o : Option ℕ) → Found (TooSlow rates remaining ticks) (length rates) 1 o →
-    Lowest rates remaining ticks o
-lowest_from_found rates remaining ticks None slow =
-    λ level sufficient.
-    omega (arith, sufficient.enough, slow (level - 1) (omega (arith, sufficient.from_one, sufficient.in_table)))
-lowest_from_found rates remaining ticks (Some level) (place, is, within, slower, not-slow) =
-    let same : place ≡ level - 1 = omega arith in
-    let enough : remaining ≤ get_or rates place 0 * ticks =
-    ⊎_elim (λ (slow : TooSlow rates remaining ticks place). absurd (not-slow slow)) (λ h. h) (cases_lt (get_or rates place 0 * ticks) remaining) in (
-      record { from_one = omega arith; in_table = omega arith; enough = rw same at enough },
-      λ other sufficient.
-          ⊎_elim
-          (λ (lower : other < level). absurd (omega (arith, sufficient.enough, slower (other - 1) (omega (arith, sufficient.from_one)))))
-          (λ (higher : level ≤ other). higher) (cases_lt other level),
-    )
-
--- The least level is the lowest sufficient one.
-pub least-is_lowest : (rates : List ℕ) (remaining ticks : ℕ) → Lowest rates remaining ticks (least rates remaining ticks)
-least-is_lowest rates remaining ticks = lowest_from_found rates remaining ticks _ (found 1 rates remaining ticks)
-
 -- Where no lower level is sufficient, the answer is what a policy has to give.
 pub answers_from_lowest :
     (rates : List ℕ) (remaining ticks : ℕ) (answer : Option ℕ) → Lawful rates → Lowest rates remaining ticks answer →
@@ -116,6 +80,28 @@ least-is_first :
 least-is_first rates remaining ticks =
     ap (option_map (λ place. place + 1)) (position_from-zero (λ rate. leb remaining (rate * ticks)) rates) ∙ first_level 0 rates remaining ticks
 
+-- No level below that of the first rate that is enough is sufficient, and none at all where no rate is.
+first-is_lowest :
+    (rates : List ℕ) (remaining ticks : ℕ) →
+    Lowest rates remaining ticks (option_map (λ place. place + 1) (position (λ rate. leb remaining (rate * ticks)) rates))
+first-is_lowest rates remaining ticks =
+    let slow : ℕ → Bool = λ rate. not (leb remaining (rate * ticks)) in
+    let first = prefix_len slow rates in
+    let before : (k : ℕ) → k < first → get_or rates k 0 * ticks < remaining = λ k h. leb-false _ _ (not-true _ (prefix_len_passes slow rates k 0 h)) in
+    cond_both (ltb first (length rates)) (Some first) None (λ (place : Option ℕ). Lowest rates remaining ticks (option_map (λ p. p + 1) place))
+    (λ some.
+    let within : first < length rates = ltb-true _ _ some in
+    let enough : remaining ≤ get_or rates first 0 * ticks = leb-true _ _ (not-false _ (prefix_len_stops slow rates 0 within)) in (
+      record { from_one = omega arith; in_table = omega arith; enough = simp (add-one, sub-one) enough },
+      λ other sufficient.
+          ⊎_elim
+          (λ (lower : other < first + 1). absurd (omega (arith, sufficient.enough, before (other - 1) (omega (arith, sufficient.from_one)))))
+          (λ (higher : first + 1 ≤ other). higher) (cases_lt other (first + 1)),
+    ))
+    (λ none. λ level sufficient.
+    let all : length rates ≤ first = ltb-false _ _ none in
+    absurd (omega (arith, sufficient.enough, before (level - 1) (omega (arith, sufficient.from_one, sufficient.in_table)))))
+
 -- What an answer tells that is the least level.
 pub record LeastOf (rates : List ℕ) (remaining ticks : ℕ) (answer : Option ℕ) : Type 0 where
   pub exact : answer ≡ least rates remaining ticks
@@ -129,5 +115,5 @@ pub least_found :
 least_found rates remaining ticks place lawful found =
     let exact : option_map (λ p. p + 1) place ≡ least rates remaining ticks =
     ap (option_map (λ p. p + 1)) found ∙ least-is_first rates remaining ticks in
-    let lowest = subst (Lowest rates remaining ticks) (sym exact) (least-is_lowest rates remaining ticks) in
+    let lowest = subst (λ o. Lowest rates remaining ticks (option_map (λ p. p + 1) o)) (sym found) (first-is_lowest rates remaining ticks) in
     record { exact = exact; meaning = answers_from_lowest rates remaining ticks _ lawful lowest; lowest = lowest }
