@@ -1,4 +1,4 @@
-// Making a cue, and reading it.
+//! Making a cue, and reading it.
 ghost use Rattle.std.specs.Prelude.{◌≡◌, Some, None, Ok, Err};
 ghost use Rattle.std.specs.Result.{result_err};
 ghost use Rattle.cues.specs.Cues.{cue_refusal, Holds};
@@ -11,6 +11,19 @@ impl Cue {
 
     pub const LATEST_DEADLINE: u32 = 134_217_727;
 
+    /// Tells whether a cue may have these numbers: its budget or else its deadline is refused where it is out of bounds.
+    pub fn check(release: u32, deadline: u32, budget: u32) -> Result<(), CueRefusal>
+        ensures { result_err result ≡ cue_refusal release deadline budget }
+    {
+        if budget == 0 || budget > Cue::LARGEST_BUDGET {
+            return Err(CueRefusal::Budget { budget });
+        }
+        if deadline <= release || deadline > Cue::LATEST_DEADLINE {
+            return Err(CueRefusal::Deadline { deadline });
+        }
+        Ok(())
+    }
+
     /// A cue of these four numbers, unless its budget or else its deadline is out of bounds.
     pub fn new(release: u32, deadline: u32, budget: u32, actual: u32) -> Result<Cue, CueRefusal>
         ensures { elim result [ Ok c ↦ (cue_refusal release deadline budget ≡ None) × Holds c release deadline budget actual | Err e ↦ cue_refusal release deadline budget ≡ Some e ] }
@@ -22,19 +35,6 @@ impl Cue {
             budget,
             actual,
         })
-    }
-
-    /// Why no cue has these numbers: its budget or else its deadline is out of bounds.
-    pub fn check(release: u32, deadline: u32, budget: u32) -> Result<(), CueRefusal>
-        ensures { result_err result ≡ cue_refusal release deadline budget }
-    {
-        if budget == 0 || budget > Cue::LARGEST_BUDGET {
-            return Err(CueRefusal::Budget { budget });
-        }
-        if deadline <= release || deadline > Cue::LATEST_DEADLINE {
-            return Err(CueRefusal::Deadline { deadline });
-        }
-        Ok(())
     }
 
     /// The tick from which the cue may be played.
