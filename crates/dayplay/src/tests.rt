@@ -4,6 +4,7 @@ use crate::rehearsal::Rehearsal;
 use calls::call::{Call, Reply};
 use calls::refusal::Refusal;
 use calls::ticked::{Ending, Ran, Switch, Ticked, Turn};
+use cues::refusal::CueRefusal;
 use rates::Level;
 use renderers::answer::Answer;
 use script::{Script, ScriptError, read_script};
@@ -99,7 +100,7 @@ fn a_rehearsal_is_told_line_by_line(rt: HostRuntime) -> Result<(), Fail> {
         Ok(Reply::Released(3)),
         Ok(Reply::Ticked(Ticked::Ran(ran))),
         Ok(Reply::Ticked(Ticked::Idle)),
-        Err(Refusal::Deadline { deadline: 1 }),
+        Err(Refusal::Job(CueRefusal::Deadline { deadline: 1 })),
     ]?;
     let rehearsal = Rehearsal {
         replies,

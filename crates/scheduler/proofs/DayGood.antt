@@ -212,10 +212,7 @@ reached_good s lawful (es, possible, e) =
     follows : Follows_on nothing_told nothing_told (opened s.rates) es (map slow_call es)
     follows = day_follows s.rates es lawful possible
 
--- A fresh day is reached, and so is the day after each call that a reached one may accept.
-pub reached_opened : (rates : List ℕ) → Reached (opened rates)
-reached_opened rates = ([], tt, refl)
-
+-- The day after each call that a reached one may accept is reached.
 possible_push : (d : DayState) (es : List Event) (e : Event) → AllPossible d es → Possible (after_all d es) e → AllPossible d (es ++ e ∷ [])
 possible_push d [] e h p = (p, tt)
 possible_push d (x ∷ es) e h p = (h.0, possible_push (after d x) es e h.1 p)

@@ -12,6 +12,7 @@ use renderers::answer::Answer;
 use renderers::renderer::Renderer;
 
 /// The chosen job, how it comes to run and how fast.
+// The switch tells its bound and level again: it is told as it stands, and a job without a switch has them too.
 #[derive(Clone, Copy)]
 pub(crate) struct Chosen {
     /// Where the job stands among those that are pending.

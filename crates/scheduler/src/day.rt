@@ -17,7 +17,7 @@ use crate::job::Job;
 use arrayvec::ArrayVec;
 use rates::RateTable;
 
-/// The last clock of a day, and the last deadline that a job may have.
+/// The last clock of a day.
 const LAST_CLOCK: u32 = 134_217_727;
 
 /// The most jobs that may be pending.

@@ -1,7 +1,7 @@
 //! Choosing the job that a tick runs: which job, up to which bound, at which level. Nothing is changed yet but the state
 //! of a policy that was asked.
 
-ghost use Rattle.std.specs.Prelude.{◌≡◌, ◌-◌, ◌*◌, ◌<◌, ◌≤◌, false, length, Some, None};
+ghost use Rattle.std.specs.Prelude.{◌≡◌, ◌*◌, ◌≤◌, false, length, Some, None};
 ghost use Rattle.rates.specs.Policy.{Sufficient};
 ghost use Rattle.rates.specs.Table.{rate_of, top_rate};
 ghost use Rattle.scheduler.specs.declared.job.Stage.TheVariants.{Running};
@@ -15,7 +15,7 @@ use super::Day;
 use crate::chosen::Chosen;
 use crate::job::{Job, Stage};
 use calls::ticked::Switch;
-use rates::{Level, Policy};
+use rates::{Level, Policy, Work};
 
 impl Day {
     /// The first job, with all that is decided before it runs. The policy is asked where the job did not run in the tick
@@ -54,7 +54,11 @@ impl Day {
         ensures asked { Asks P.Policy.tells (model self.now) result.job result.switch policy.old policy.new }
     {
         let bound = self.bound_of(&job);
-        let level = self.level_for(job.remaining, bound, policy);
+        let work = Work {
+            remaining: job.remaining,
+            ticks: bound - self.clock,
+        };
+        let level = self.level_for(work, policy);
         let switch = Switch {
             aside: self.runner(),
             turn: job.stage.turn(),
@@ -114,15 +118,13 @@ impl Day {
         Some(self.pending[place].number)
     }
 
-    /// The level that the policy picks for what remains up to the bound. There is time enough, so that it picks one.
-    fn level_for<P: Policy>(&self, remaining: u32, bound: u32, policy: &mut P) -> Level
-        requires { ((model self.now).clock < bound) × (remaining ≤ top_rate (model self.now).rates * (bound - (model self.now).clock)) }
-        ensures enough { Sufficient (model self.now).rates remaining (bound - (model self.now).clock) result.0 }
-        ensures told { (remaining ≤ top_rate (model self.now).rates * (bound - (model self.now).clock)) × P.Policy.tells policy.old (model self.now).rates remaining (bound - (model self.now).clock) (Some result.0) policy.new }
+    /// The level that the policy picks for some work. There is time enough, so that it picks one.
+    fn level_for<P: Policy>(&self, work: Work, policy: &mut P) -> Level
+        requires { work.remaining ≤ top_rate (model self.now).rates * work.ticks }
+        ensures enough { Sufficient (model self.now).rates work.remaining work.ticks result.0 }
+        ensures told { P.Policy.tells policy.old (model self.now).rates work.remaining work.ticks (Some result.0) policy.new }
     {
-        policy
-            .choose(&self.table, remaining, bound - self.clock)
-            .unwrap()
+        policy.choose(&self.table, work).unwrap()
     }
 
     /// The rate of a level of the table.
