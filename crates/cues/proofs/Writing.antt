@@ -1,5 +1,5 @@
 -- The pass that writes the candidates from a start: each turn adds one budget to the sum and gives one candidate.
-use Rattle.std.proofs.Common.{◌≡◌, ℕ, zero, suc, ◌+◌, ◌-◌, ◌*◌, ◌%◌, ◌^◌, ◌<◌, ◌≤◌, cond, leb, List, [], ◌∷◌, length, get_or, take, drop, sum_by, refl, sym, ap, ◌∙◌, mul-zero, arith}
+use Rattle.std.proofs.Common.{◌≡◌, ℕ, zero, suc, ◌+◌, ◌-◌, ◌*◌, ◌%◌, ◌^◌, ◌<◌, ◌≤◌, cond, leb, List, [], ◌∷◌, length, get_or, take, drop, sum_by, refl, ap, ◌∙◌, mul-zero, arith}
 use Rattle.std.specs.List.{scan}
 use Rattle.std.proofs.ByRecursion.{all_from_every, sum_by_le}
 use Rattle.std.proofs.lemmas.List.{get_or-take, get_or-drop, length-take-le, length-drop, take-take, drop-take}
@@ -7,7 +7,7 @@ use Rattle.std.proofs.lemmas.List.Sums.{sum_by-cons, sum_by-take-drop}
 use Rattle.std.proofs.lemmas.Bool.Decides.{nat_tests}
 use Rattle.cues.specs.declared.cue.Cue.{Cue}
 use Rattle.cues.specs.declared.load.Load.{Load}
-use Rattle.cues.specs.Candidates.{share, candidate_at, DueAfter, Written}
+use Rattle.cues.specs.Candidates.{share, DueAfter, Written}
 
 module _ (start : ℕ) where
   -- the sum after a cue, wrapped as a word is
