@@ -1,7 +1,7 @@
 -- The pass that keeps the best candidate from each release: what it finds for one, and one turn of it.
-use Rattle.std.proofs.Common.{◌≡◌, ℕ, ◌+◌, ◌-◌, ◌<◌, ◌≤◌, List, [], ◌∷◌, ◌++◌, map, length, get_or, take, drop, sym, refl, ap, ◌∙◌, subst, ⊎_elim, arith}
+use Rattle.std.proofs.Common.{◌≡◌, ℕ, ◌+◌, ◌-◌, ◌<◌, ◌≤◌, List, [], ◌∷◌, ◌++◌, length, get_or, take, sym, ap, ◌∙◌, subst, ⊎_elim, arith}
 use Rattle.std.proofs.ByRecursion.{has_get_or, has_shuffled}
-use Rattle.std.proofs.lemmas.List.{get_or-take, get_or-drop, get_or_append_left, get_or_push, get_or-map, length_push, length-take-le, length-drop, length-map, get_or_read}
+use Rattle.std.proofs.lemmas.List.{get_or-take, get_or_append_left, get_or_push, length_push, length-take-le, get_or_read}
 use Rattle.std.proofs.lemmas.Bool.{cases_lt}
 use Rattle.ordering.specs.First.{First}
 use Rattle.cues.specs.declared.load.Load.{Load}
@@ -29,9 +29,6 @@ due-after_release cues dues i cue sorted lt is =
     let there = has_shuffled cues dues (get_or cues i cue) sorted.same (has_get_or cues i cue lt) in
     let same : get_or dues there.0 cue ≡ cue = there.2 cue ∙ sym is in
     (there.0, cue, there.1, subst (λ x. cue.release < x.deadline) (sym same) cue.rising)
-
-pub bests_none : {dues : List Cue} → Bests [] dues []
-bests_none = record { many = refl; each = λ k c e lt. absurd (omega arith) }
 
 module _ (cues : List Cue) (dues : List Cue) (bests : List Load) (i : ℕ) (inside : i < length cues) (so_far : Bests (take i cues) dues bests) where
   long : length bests ≡ i

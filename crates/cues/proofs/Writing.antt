@@ -1,5 +1,5 @@
 -- The pass that writes the candidates from a start: each turn adds one budget to the sum and gives one candidate.
-use Rattle.std.proofs.Common.{◌≡◌, ℕ, zero, suc, ◌+◌, ◌-◌, ◌*◌, ◌^◌, ◌<◌, ◌≤◌, min, cond, leb, List, [], ◌∷◌, length, get_or, take, drop, sum_by, refl, sym, ap, ◌∙◌, mul-zero, arith}
+use Rattle.std.proofs.Common.{◌≡◌, ℕ, zero, suc, ◌+◌, ◌-◌, ◌*◌, ◌%◌, ◌^◌, ◌<◌, ◌≤◌, cond, leb, List, [], ◌∷◌, length, get_or, take, drop, sum_by, refl, ap, ◌∙◌, mul-zero, arith}
 use Rattle.std.specs.List.{scan}
 use Rattle.std.proofs.ByRecursion.{all_from_every, sum_by_le}
 use Rattle.std.proofs.lemmas.List.{get_or-take, get_or-drop, length-take-le, length-drop, take-take, drop-take}
@@ -7,16 +7,23 @@ use Rattle.std.proofs.lemmas.List.Sums.{sum_by-cons, sum_by-take-drop}
 use Rattle.std.proofs.lemmas.Bool.Decides.{nat_tests}
 use Rattle.cues.specs.declared.cue.Cue.{Cue}
 use Rattle.cues.specs.declared.load.Load.{Load}
-use Rattle.cues.specs.Candidates.{share, candidate_at, DueAfter, Written}
+use Rattle.cues.specs.Candidates.{share, DueAfter, Written}
 
 module _ (start : ℕ) where
-  -- the sum after a cue, cut off at the largest number
+  -- the sum after a cue, wrapped as a word is
   abbrev pub sum_after : ℕ → Cue → ℕ
-  sum_after sum cue = cond (leb start cue.release) (min (sum + cue.budget) (2 ^ 32 - 1)) sum
+  sum_after sum cue = cond (leb start cue.release) ((sum + cue.budget) % 2 ^ 32) sum
+
+  -- the length up to the deadline of a cue, wrapped likewise
+  abbrev span-to : Cue → ℕ
+  span-to cue = (cue.deadline + (2 ^ 32 - start)) % 2 ^ 32
 
   -- the candidate that ends at the deadline of a cue, where the cues before it sum to this
   abbrev pub ending_at : ℕ → Cue → Load
-  ending_at sum cue = record { demand = sum_after sum cue; length = cue.deadline - start; start = start; end = cue.deadline }
+  ending_at sum cue = record { demand = sum_after sum cue; length = (cue.deadline + (2 ^ 32 - start)) % 2 ^ 32; start = start; end = cue.deadline }
+
+  span-to-is : (cue : Cue) → start < cue.deadline → span-to cue ≡ cue.deadline - start
+  span-to-is cue past = let soon = cue.in_time in omega arith
 
   sums : (sum : ℕ) (cue : Cue) → sum + 65535 < 2 ^ 32 → sum_after sum cue ≡ sum + share start cue
   sums sum cue small = let little = cue.little_work in grind (arith, nat_tests)
@@ -30,19 +37,19 @@ module _ (start : ℕ) where
 
   written-at : (cues : List Cue) (sum k : ℕ) (d : Cue) (e : Load) → sum + 65535 * length cues < 2 ^ 32 → k < length cues
       → get_or (scan sum_after ending_at sum cues) k e
-      ≡ record { demand = sum + sum_by (share start) (take (suc k) cues); length = (get_or cues k d).deadline - start; start = start; end = (get_or cues k d).deadline }
+      ≡ record { demand = sum + sum_by (share start) (take (suc k) cues); length = span-to (get_or cues k d); start = start; end = (get_or cues k d).deadline }
   written-at [] sum k d e small lt = absurd (omega arith)
   written-at (c ∷ cues) sum zero d e small lt =
       let first = sums sum c (omega arith) in
       let one : sum_after sum c ≡ sum + sum_by (share start) (c ∷ []) = omega (arith, sum_by-cons (share start) c []) in
-      ap (λ n. record { demand = n; length = c.deadline - start; start = start; end = c.deadline }) one
+      ap (λ n. record { demand = n; length = span-to c; start = start; end = c.deadline }) one
   written-at (c ∷ cues) sum (suc k) d e small lt =
       let first = sums sum c (omega arith) in
       let little = share-small c in
       let rest = written-at cues (sum_after sum c) k d e (omega arith) (omega arith) in
       let all : sum_after sum c + sum_by (share start) (take (suc k) cues) ≡ sum + sum_by (share start) (c ∷ take (suc k) cues) =
       omega (arith, sum_by-cons (share start) c (take (suc k) cues)) in
-      rest ∙ ap (λ n. record { demand = n; length = (get_or cues k d).deadline - start; start = start; end = (get_or cues k d).deadline }) all
+      rest ∙ ap (λ n. record { demand = n; length = span-to (get_or cues k d); start = start; end = (get_or cues k d).deadline }) all
 
   -- no cue that is due by the start is released after it
   share-over : (cue : Cue) → cue.deadline ≤ start → share start cue ≡ 0
@@ -81,7 +88,9 @@ module _ (start : ℕ) where
           each = λ k d e lt.
               ap (λ xs. get_or xs k e) is
               ∙ written-at (drop late dues) 0 k d e (omega arith) (omega arith)
-              ∙ ap (λ c. record { demand = 0 + sum_by (share start) (take (suc k) (drop late dues)); length = c.deadline - start; start = start; end = c.deadline }) (get_or-drop late dues k d)
+              ∙ ap (λ c. record { demand = 0 + sum_by (share start) (take (suc k) (drop late dues)); length = span-to c; start = start; end = c.deadline }) (get_or-drop late dues k d)
+              ∙ ap (λ n. record { demand = 0 + sum_by (share start) (take (suc k) (drop late dues)); length = n; start = start; end = (get_or dues (late + k) d).deadline })
+              (span-to-is (get_or dues (late + k) d) (after.ahead (late + k) d (omega arith) (omega arith)))
               ∙ ap (λ n. record { demand = n; length = (get_or dues (late + k) d).deadline - start; start = start; end = (get_or dues (late + k) d).deadline })
               (let whole = later-sum k in omega arith);
         }

@@ -1,5 +1,5 @@
 -- The candidates for the greatest share: from a release to the deadline of each cue, the cues in the order of their deadlines.
-use Rattle.std.specs.Prelude.{◌≡◌, ℕ, ◌+◌, ◌-◌, ◌<◌, ◌≤◌, false, cond, ◌⊎◌, List, map, length, get_or, take, sum_by, nat_le, slice_index_or}
+use Rattle.std.specs.Prelude.{◌≡◌, ℕ, ◌+◌, ◌-◌, ◌<◌, ◌≤◌, false, cond, ◌⊎◌, List, length, get_or, take, sum_by, nat_le, slice_index_or}
 use Rattle.std.specs.List.Sorted.{IsPermutation, IsNonDecreasingBy}
 use Rattle.ordering.specs.First.{First}
 use Rattle.cues.specs.declared.cue.Cue.{Cue}

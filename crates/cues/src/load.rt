@@ -48,7 +48,6 @@ impl Before for Load {
     fn is_before(&self, other: &Load) -> bool {
         let ours = u64::from(self.demand) * u64::from(other.length.max(1));
         let theirs = u64::from(other.demand) * u64::from(self.length.max(1));
-        theirs < ours
-            || (theirs == ours && (self.start, self.end) < (other.start, other.end))
+        theirs < ours || (theirs == ours && (self.start, self.end) < (other.start, other.end))
     }
 }

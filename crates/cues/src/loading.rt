@@ -79,19 +79,19 @@ impl Dues {
     }
 
     // Writes the candidate from the start to each later deadline. A cue that is due by the start was released before it, so the
-    // sum begins with the first later one; the budgets of 1,024 cues are far from where it would be cut off. Inside a run of equal
-    // deadlines the sum still lacks some cues; the last of the run has them all.
+    // sum begins with the first later one. Inside a run of equal deadlines the sum still lacks some cues; the last of the run has
+    // them all. Nothing wraps: the budgets of 1,024 cues fit, and each later deadline is past the start.
     fn write_candidates(&self, start: u32, candidates: &mut Vec<Load>) -> Result<(), AllocError>
         ensures { OnOk result (Written start self.now.cues.items candidates.new.items) }
     {
         let next = |demand: &mut u32, cue: &Cue| {
             if start <= cue.release() {
-                *demand = demand.saturating_add(cue.budget());
+                *demand = demand.wrapping_add(cue.budget());
             }
             let end = cue.deadline();
             Some(Load {
                 demand: *demand,
-                length: end.saturating_sub(start),
+                length: end.wrapping_sub(start),
                 start,
                 end,
             })

@@ -8,9 +8,9 @@ use std::alloc::AllocFailed;
 
 #[derive(Clone, Copy, PartialEq, Eq, Debug)]
 pub enum CueRefusal {
-    // The budget is outside 1 to 65,535.
+    /// The budget is outside 1 to 65,535.
     Budget { budget: u32 },
-    // The deadline is not after the release, or over 134,217,727.
+    /// The deadline is not after the release, or over 134,217,727.
     Deadline { deadline: u32 },
 }
 
@@ -36,7 +36,7 @@ impl CueRefusal {
 
 #[derive(Clone, Copy, PartialEq, Eq, Debug)]
 pub enum ListRefusal {
-    // The list holds as many cues as it may.
+    /// The list holds as many cues as it may.
     Full { most: u32 },
     NoMemory,
 }
@@ -45,7 +45,7 @@ impl From<AllocFailed<Cue>> for ListRefusal {
     ghost from_gives = { λ failed r. r ≡ NoMemory };
 
     fn from(_failed: AllocFailed<Cue>) -> ListRefusal {
-        ListRefusal::NoMemory
+        Self::NoMemory
     }
 }
 

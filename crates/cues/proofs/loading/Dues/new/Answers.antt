@@ -1,4 +1,4 @@
-use Rattle.std.proofs.Common.{ap, rules, tests, arith, length}
+use Rattle.std.proofs.Common.{rules, tests}
 use Rattle.std.proofs.lemmas.List.Sorted.{IsNonDecreasingBy-from_sort_by_key}
 use Rattle.cues.proofs.loading.Dues.new.Goals as goal
 

@@ -1,4 +1,4 @@
-use Rattle.std.proofs.Common.{◌++◌, length, vec_len, sym, ap, ◌∙◌, rules, tests, arith}
+use Rattle.std.proofs.Common.{◌++◌, ap, ◌∙◌, rules, tests, arith}
 use Rattle.std.specs.List.{scan}
 use Rattle.std.proofs.lemmas.Iterator.{YieldsList-from_slice}
 use Rattle.std.proofs.lemmas.Iterator.Consumers.{YieldsList-from_scan}
