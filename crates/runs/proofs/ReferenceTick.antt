@@ -1,11 +1,12 @@
 -- A tick of the reference run goes to one job, which has ticks left and is due no later than any other such job;
 -- where no job has ticks left, it changes no row. What holds of every row, and sums over the rows, follow a tick by that.
-use Rattle.std.proofs.Common.{◌≡◌, ℕ, suc, ◌+◌, ◌<◌, ◌≤◌, Bool, true, false, ◌&&◌, eqb, ltb, List, [], ◌∷◌, map, length, get_or, set, is_some, Some, None, sum_by, Option, sym, refl, ap, ◌∙◌, subst, arith}
+use Rattle.std.proofs.Common.{◌≡◌, ℕ, suc, ◌+◌, ◌<◌, ◌≤◌, Bool, true, false, ◌&&◌, eqb, ltb, List, [], ◌∷◌, map, length, get_or, set, Some, None, sum_by, Option, sym, refl, ap, ◌∙◌, subst, arith}
 use lib.Seq.{map-set_same}
 use Rattle.std.specs.List.{ContainsAt, AllByRecursion}
-use Rattle.std.proofs.lemmas.Bool.{false≢true, cond_both, cond-true, cond-false, ltb-true, ltb-false, eqb-true, eqb-false, and_parts, and_from, and_left, and_right}
+use Rattle.std.proofs.lemmas.Bool.{cond-true, cond-false, ltb-true, eqb-true, eqb-false, and_parts, and_from, and_left, and_right}
 use Rattle.std.proofs.ByRecursion.{All-weaker, All-set, all-has, has_get_or}
 use Rattle.std.proofs.lemmas.List.Sums.{sum_by-set}
+use Rattle.std.proofs.lemmas.Bool.Decides.{nat_tests}
 use Rattle.runs.specs.ReferenceRun.{Row, sooner, soonest, served, serve, serve_soonest}
 
 -- Every job with ticks left is due at d or later.
@@ -26,15 +27,11 @@ soonest-with r rows None rest = ((λ h. omega arith), All-weaker _ _ (λ x z h. 
 soonest-with r rows (Some d) rest = ((λ h. omega arith), All-weaker _ _ (λ x f h. omega (arith, f h)) rows rest)
 
 soonest-without : (r : Row) (rows : List Row) (o : Option ℕ) → r.left ≡ 0 → Soonest o rows → Soonest o (r ∷ rows)
-soonest-without r rows None z rest = (z, rest)
-soonest-without r rows (Some d) z rest = ((λ h. omega arith), rest)
+soonest-without r rows o z rest = grind (arith, nat_tests)
 
 soonest-is_first : (rows : List Row) → Soonest (soonest rows) rows
 soonest-is_first [] = tt
-soonest-is_first (r ∷ rows) =
-    cond_both (ltb 0 r.left) _ _ (λ o. Soonest o (r ∷ rows))
-    (λ e. soonest-with r rows (soonest rows) (soonest-is_first rows))
-    (λ e. soonest-without r rows (soonest rows) (omega (arith, ltb-false 0 r.left e)) (soonest-is_first rows))
+soonest-is_first (r ∷ rows) = grind (arith, nat_tests, soonest-with r rows (soonest rows), soonest-without r rows (soonest rows), soonest-is_first rows)
 
 -- The job that a tick goes to: at its place, with ticks left, and due at d.
 pub record Served (d : ℕ) (rows : List Row) : Type 0 where
@@ -80,21 +77,17 @@ finds_later after d r rows e (s, becomes) = (
 )
 
 sooner-of_rest : (d e : ℕ) (o : Option ℕ) → (d ≡ e → ⊥) → sooner d o ≡ e → o ≡ Some e
-sooner-of_rest d e None other is = absurd (other is)
-sooner-of_rest d e (Some f) other is = ap Some (omega arith)
-
-some_same : (d e : ℕ) → Some d ≡ Some e → d ≡ e
-some_same d e p = cc
+sooner-of_rest d e o other is = grind (arith, nat_tests)
 
 serve-finds : (after d : ℕ) (rows : List Row) → soonest rows ≡ Some d → Finds after d rows
-serve-finds after d [] is = absurd (false≢true (ap is_some is))
+serve-finds after d [] is = cc
 serve-finds after d (r ∷ rows) is = go (ltb 0 r.left) (eqb r.job.deadline d) refl refl (serve-finds after d rows)
   where
     go : (working due : Bool) → ltb 0 r.left ≡ working → eqb r.job.deadline d ≡ due → (soonest rows ≡ Some d → Finds after d rows) → Finds after d (r ∷ rows)
     go true true w e rest = finds_here after d r rows (and_from _ _ w e)
     go true false w e rest =
         finds_later after d r rows (and_right _ _ e)
-        (rest (sooner-of_rest r.job.deadline d (soonest rows) (eqb-false _ d e) (some_same _ d (sym (cond-true _ _ _ w) ∙ is))))
+        (rest (sooner-of_rest r.job.deadline d (soonest rows) (eqb-false _ d e) (cc (sym (cond-true _ _ _ w) ∙ is))))
     go false due w e rest = finds_later after d r rows (and_left _ _ w) (rest (sym (cond-false _ _ _ w) ∙ is))
 
 -- The rows after a tick.
@@ -124,8 +117,7 @@ served-sum f after d rows s =
 pub tick_sum_le : (f : Row → ℕ) (k after : ℕ) (rows : List Row) → ((r : Row) → ContainsAt rows r → f (served after r) ≤ f r + k) → sum_by f (ticked_rows after rows) ≤ sum_by f rows + k
 tick_sum_le f k after rows grows =
     by_tick after rows (λ rs. sum_by f rs ≤ sum_by f rows + k)
-    (λ all_done. omega arith)
-    (λ d s first. omega (arith, served-sum f after d rows s, grows s.row (served-has d rows s)))
+    (λ all_done. omega arith) (λ d s first. omega (arith, served-sum f after d rows s, grows s.row (served-has d rows s)))
 
 -- What holds of every row after a tick: the rows that stay give it, and so does the row served.
 pub tick_all : (P Q : Row → Type 0) (after : ℕ) (rows : List Row) → ((r : Row) → P r → Q r) → ((r : Row) → ContainsAt rows r → 0 < r.left → P r → Q (served after r)) → AllByRecursion P rows → AllByRecursion Q (ticked_rows after rows)
@@ -143,5 +135,4 @@ tick_all P Q after rows stays changes all =
 pub tick_jobs : (after : ℕ) (rows : List Row) → map (λ r. r.job) (ticked_rows after rows) ≡ map (λ r. r.job) rows
 tick_jobs after rows =
     by_tick after rows (λ rs. map (λ r. r.job) rs ≡ map (λ r. r.job) rows)
-    (λ all_done. refl)
-    (λ d s first. map-set_same (λ r. r.job) rows s.place _ s.row (ap (λ r. r.job) (sym s.there)))
+    (λ all_done. refl) (λ d s first. map-set_same (λ r. r.job) rows s.place _ s.row (ap (λ r. r.job) (sym s.there)))

@@ -1,7 +1,8 @@
 -- The law over whole runs: the slowed run is never behind the reference run, and its bounds hold.
-use Rattle.std.proofs.Common.{◌≡◌, ℕ, ◌+◌, ◌-◌, ◌≤◌, Bool, true, false, cond, List, [], ◌∷◌, map, Some, None, Option, sym, refl, ◌∙◌, subst, subst₂, arith}
+use Rattle.std.proofs.Common.{◌≡◌, ℕ, ◌+◌, ◌≤◌, Bool, cond, List, [], ◌∷◌, map, Some, None, Option, sym, refl, ◌∙◌, subst, subst₂, arith}
 use mathlib.Core.Path.{subst₃}
 use Rattle.std.specs.List.{AllByRecursion}
+use Rattle.std.proofs.lemmas.Bool.Decides.{nat_tests}
 use Rattle.runs.specs.ReferenceRun
 use Rattle.runs.specs.SlowRun
 use Rattle.runs.specs.SlowRun.{Call, arrival, tick, waiting, running, aside, over, Slow, SlowRow, pending, runs, somebody_runs, first, ticked}
@@ -17,23 +18,14 @@ abbrev pub one_if_runs : Both → ℕ
 one_if_runs r = cond (runs (slow_row r).stage) 1 0
 
 pub stack_runs : (f : Bool) (t E W Q : ℕ) (rs : List Both) → Stack t f E W Q rs → summed one_if_runs rs ≡ cond f 1 0
-stack_runs true t E W Q [] s = absurd s
-stack_runs false t E W Q [] s = refl
-stack_runs f t E W Q (row j l e waiting ∷ rs) s = omega (arith, stack_runs f t E (W + l) (Q + l) rs s.2)
-stack_runs true t E W Q (row j l e (running b) ∷ rs) s = omega (arith, stack_runs false t b W (Q + l) rs s.2)
-stack_runs false t E W Q (row j l e (running b) ∷ rs) s = absurd s
-stack_runs true t E W Q (row j l e (aside b n) ∷ rs) s = absurd s
-stack_runs false t E W Q (row j l e (aside b n) ∷ rs) s = omega (arith, stack_runs false t (b + E - n) W (Q + l) rs s.2)
-stack_runs f t E W Q (row j l e (over s₁ b) ∷ rs) s = omega (arith, stack_runs f t E W (Q + l) rs s.2)
+stack_runs f t E W Q [] s = grind (arith, nat_tests)
+stack_runs f t E W Q (row j l e st ∷ rs) s =
+    let below = λ (f : Bool) (E W : ℕ). stack_runs f t E W (Q + l) rs in
+    grind (arith, nat_tests, below)
 
 somebody_from_count : (f : Bool) (rs : List Both) → summed one_if_runs rs ≡ cond f 1 0 → somebody_runs (map slow_row rs) ≡ f
-somebody_from_count true [] h = absurd (omega arith)
-somebody_from_count false [] h = refl
-somebody_from_count f (row j l e waiting ∷ rs) h = somebody_from_count f rs (omega arith)
-somebody_from_count true (row j l e (running b) ∷ rs) h = refl
-somebody_from_count false (row j l e (running b) ∷ rs) h = absurd (omega arith)
-somebody_from_count f (row j l e (aside b n) ∷ rs) h = somebody_from_count f rs (omega arith)
-somebody_from_count f (row j l e (over s b) ∷ rs) h = somebody_from_count f rs (omega arith)
+somebody_from_count f [] h = grind (arith, nat_tests)
+somebody_from_count f (row j l e st ∷ rs) h = grind (arith, nat_tests, somebody_from_count f rs)
 
 stack_somebody :
     (f : Bool) (t E W Q : ℕ) (rs : List Both) → Stack t f E W Q (sorted rs) → somebody_runs (map slow_row rs) ≡ f
@@ -53,42 +45,26 @@ invariant_from :
 invariant_from s f k h =
     record {
       stack =
-          subst
-          (λ f. Stack s.clock f s.handed_bound 0 s.clock (sorted s.rows))
-          (sym (stack_somebody f s.clock s.handed_bound 0 s.clock s.rows k))
-          k;
+          subst (λ f. Stack s.clock f s.handed_bound 0 s.clock (sorted s.rows))
+          (sym (stack_somebody f s.clock s.handed_bound 0 s.clock s.rows k)) k;
       handed = h;
     }
 
 invariant_arrival : (s : State) (d b : ℕ) → 1 ≤ b → Invariant s → Invariant (both_step s (arrival d b))
 invariant_arrival s d b p v =
-    invariant_from
-    (both_step s (arrival d b))
-    (somebody_runs (map slow_row s.rows))
+    invariant_from (both_step s (arrival d b)) (somebody_runs (map slow_row s.rows))
     (subst
     (Stack s.clock (somebody_runs (map slow_row s.rows)) s.handed_bound 0 s.clock)
     (sym (sorted-push s.rows (row (record { release = s.clock; deadline = d; budget = b }) b None waiting)))
     (stack_insert
-    (somebody_runs (map slow_row s.rows))
-    s.clock
-    s.handed_bound
-    0
-    s.clock
-    (record { release = s.clock; deadline = d; budget = b })
-    (sorted s.rows)
-    p
+    (somebody_runs (map slow_row s.rows)) s.clock s.handed_bound 0 s.clock (record { release = s.clock; deadline = d; budget = b })
+    (sorted s.rows) p
     v.stack))
     (subst
     (Handed s.handed_bound s.handed_deadline s.clock)
     (sym (sorted-push s.rows (row (record { release = s.clock; deadline = d; budget = b }) b None waiting)))
     (handed-insert
-    s.handed_bound
-    s.handed_deadline
-    s.clock
-    (record { release = s.clock; deadline = d; budget = b })
-    b
-    None
-    (sorted s.rows)
+    s.handed_bound s.handed_deadline s.clock (record { release = s.clock; deadline = d; budget = b }) b None (sorted s.rows)
     v.handed))
 
 bound_handed_on :
@@ -127,15 +103,12 @@ invariant_tick s early v = invariant_from (both_step s (tick early)) (runs_at ea
         Stack (t + 1) (runs_at early f t H D m) (both_step s (tick early)).handed_bound 0 (t + 1) (sorted (both_step s (tick early)).rows)
         × Handed (both_step s (tick early)).handed_bound (both_step s (tick early)).handed_deadline (t + 1) (sorted (both_step s (tick early)).rows)
     next =
-        subst₃
-        (λ b d rs. Stack (t + 1) (runs_at early f t H D m) b 0 (t + 1) rs × Handed b d (t + 1) rs)
-        (sym (bound_handed_on s early m))
-        (sym (deadline_handed_on s early m))
-        (sym (sorted-tick s early))
+        subst₃ (λ b d rs. Stack (t + 1) (runs_at early f t H D m) b 0 (t + 1) rs × Handed b d (t + 1) rs)
+        (sym (bound_handed_on s early m)) (sym (deadline_handed_on s early m)) (sym (sorted-tick s early))
         (subst
         (λ m. Kept early f t H D (t + 1) m (rows_at early f t H D m (serve_first (t + 1) (sorted s.rows))))
         (sym (first-is_front s.rows))
-        (kept_tick early f t H D t (t + 1) (sorted s.rows) refl refl (sorted-is_sorted s.rows) v.stack v.handed))
+        (kept_tick early t H D f t (t + 1) (sorted s.rows) refl refl (sorted-is_sorted s.rows) v.stack v.handed))
 
 invariant_run : (s : State) (cs : List Call) → Budgeted cs → Invariant s → Invariant (both_run s cs)
 invariant_run s [] p v = v
@@ -152,12 +125,9 @@ RowAgrees r = NotBehind (slow_row r).stage (reference_row r).end
 
 stack_agrees : (f : Bool) (t E W Q : ℕ) (rs : List Both) → Stack t f E W Q rs → AllByRecursion RowAgrees rs
 stack_agrees f t E W Q [] s = tt
-stack_agrees f t E W Q (row j l e waiting ∷ rs) s = (s.1, stack_agrees f t E (W + l) (Q + l) rs s.2)
-stack_agrees true t E W Q (row j l e (running b) ∷ rs) s = (s.1, stack_agrees false t b W (Q + l) rs s.2)
-stack_agrees false t E W Q (row j l e (running b) ∷ rs) s = absurd s
-stack_agrees true t E W Q (row j l e (aside b n) ∷ rs) s = absurd s
-stack_agrees false t E W Q (row j l e (aside b n) ∷ rs) s = (s.1, stack_agrees false t (b + E - n) W (Q + l) rs s.2)
-stack_agrees f t E W Q (row j l e (over s₁ b) ∷ rs) s = (s.1, stack_agrees f t E W (Q + l) rs s.2)
+stack_agrees f t E W Q (row j l e st ∷ rs) s =
+    let below = λ (f : Bool) (E W : ℕ). stack_agrees f t E W (Q + l) rs in
+    grind (arith, nat_tests, below)
 
 rows_agree : (rs : List Both) → AllByRecursion RowAgrees rs → RowsAgree (map slow_row rs) (map reference_row rs)
 rows_agree [] h = tt
@@ -170,9 +140,7 @@ pub slow-run_not_behind :
     → ((SlowRun.run SlowRun.fresh cs).clock ≡ (ReferenceRun.run ReferenceRun.fresh (map accepted cs)).clock)
     × RowsAgree (SlowRun.run SlowRun.fresh cs).rows (ReferenceRun.run ReferenceRun.fresh (map accepted cs)).rows
 slow-run_not_behind cs p =
-    subst₂
-    (λ (s : Slow) (r : ReferenceRun.Reference). (s.clock ≡ r.clock) × RowsAgree s.rows r.rows)
-    (slow-of_run both_fresh cs)
+    subst₂ (λ (s : Slow) (r : ReferenceRun.Reference). (s.clock ≡ r.clock) × RowsAgree s.rows r.rows) (slow-of_run both_fresh cs)
     (reference-of_run both_fresh cs) (
       refl,
       rows_agree

@@ -1,8 +1,8 @@
 -- What holds in every slowed run by itself, read off the invariant.
-use Rattle.std.proofs.Common.{◌≡◌, ℕ, ◌+◌, ◌-◌, ◌<◌, ◌≤◌, Bool, true, false, cond, leb, List, [], ◌∷◌, map, Some, None, Option, sym, refl, ap, ◌∙◌, subst, arith}
+use Rattle.std.proofs.Common.{◌≡◌, ℕ, ◌+◌, ◌-◌, ◌<◌, ◌≤◌, Bool, true, false, cond, List, [], ◌∷◌, map, Some, None, Option, sym, refl, ap, ◌∙◌, subst, arith}
 use Rattle.std.specs.List.{AllByRecursion}
 use Rattle.std.proofs.ByRecursion.{All-map}
-use Rattle.std.proofs.lemmas.Bool.{cond_both}
+use Rattle.std.proofs.lemmas.Bool.Decides.{nat_tests}
 use Rattle.cues.specs.Demand.{Job}
 use Rattle.runs.specs.SlowRun
 use Rattle.runs.specs.SlowRun.{Call, Stage, waiting, running, aside, over, Slow, SlowRow, pending, runs, somebody_runs, earlier, first, bound_of}
@@ -33,16 +33,9 @@ stack_bounds :
     → Stack t f E W Q rs
     → AllByRecursion (λ r. BoundsHold t L (slow_row r).stage) rs
 stack_bounds f t E W Q L [] q h s = tt
-stack_bounds f t E W Q L (row j l e waiting ∷ rs) q h s =
-    (tt, stack_bounds f t E (W + l) (Q + l) L rs (omega arith) (omega (arith, s.0)) s.2)
-stack_bounds true t E W Q L (row j l e (running b) ∷ rs) q h s =
-    (omega (arith, s.0), stack_bounds false t b W (Q + l) L rs (omega arith) (omega (arith, s.0)) s.2)
-stack_bounds false t E W Q L (row j l e (running b) ∷ rs) q h s = absurd s
-stack_bounds true t E W Q L (row j l e (aside b n) ∷ rs) q h s = absurd s
-stack_bounds false t E W Q L (row j l e (aside b n) ∷ rs) q h s =
-    (omega (arith, s.0), stack_bounds false t (b + E - n) W (Q + l) L rs (omega arith) (omega (arith, s.0)) s.2)
-stack_bounds f t E W Q L (row j l e (over s₁ b) ∷ rs) q h s =
-    (omega (arith, s.0), stack_bounds f t E W (Q + l) L rs (omega arith) (omega (arith, s.0)) s.2)
+stack_bounds f t E W Q L (row j l e st ∷ rs) q h s =
+    let below = λ (f : Bool) (E W : ℕ). stack_bounds f t E W (Q + l) L rs in
+    grind (arith, nat_tests, below)
 
 -- Where nobody runs, the first job set aside waits for the handed bound H.
 stack_resumable :
@@ -51,11 +44,9 @@ stack_resumable :
     → Stack t false E W Q rs
     → AllByRecursion (λ r. Resumable t H (slow_row r).stage) rs
 stack_resumable t H E W Q [] h s = tt
-stack_resumable t H E W Q (row j l e waiting ∷ rs) h s = (tt, stack_resumable t H E (W + l) (Q + l) rs h s.2)
-stack_resumable t H E W Q (row j l e (running b) ∷ rs) h s = absurd s
-stack_resumable t H E W Q (row j l e (aside b n) ∷ rs) h s =
-    (h s.0.4, stack_resumable t H (b + E - n) W (Q + l) rs (λ _. h s.0.4) s.2)
-stack_resumable t H E W Q (row j l e (over s₁ b) ∷ rs) h s = (tt, stack_resumable t H E W (Q + l) rs h s.2)
+stack_resumable t H E W Q (row j l e st ∷ rs) h s =
+    let below = λ (E W : ℕ). stack_resumable t H E W (Q + l) rs in
+    grind (arith, nat_tests, below)
 
 -- A running job is the first that has started.
 stack_top :
@@ -75,16 +66,9 @@ stack_handed :
     → Handed H D Q rs
     → H ≤ Q + summed budget_of rs
 stack_handed f t E W H D Q [] s h = omega arith
-stack_handed f t E W H D Q (row j l e waiting ∷ rs) s h =
-    omega (arith, s.0, stack_handed f t E (W + l) H D (Q + l) rs s.2 h.1)
-stack_handed true t E W H D Q (row j l e (running b) ∷ rs) s h =
-    omega (arith, s.0, stack_handed false t b W H D (Q + l) rs s.2 h.1)
-stack_handed false t E W H D Q (row j l e (running b) ∷ rs) s h = absurd s
-stack_handed true t E W H D Q (row j l e (aside b n) ∷ rs) s h = absurd s
-stack_handed false t E W H D Q (row j l e (aside b n) ∷ rs) s h =
-    omega (arith, s.0, stack_handed false t (b + E - n) W H D (Q + l) rs s.2 h.1)
-stack_handed f t E W H D Q (row j l e (over s₁ b) ∷ rs) s h =
-    omega (arith, s.0, stack_handed f t E W H D (Q + l) rs s.2 h.1)
+stack_handed f t E W H D Q (row j l e st ∷ rs) s h =
+    let below = λ (f : Bool) (E W : ℕ). stack_handed f t E W H D (Q + l) rs in
+    grind (arith, nat_tests, below)
 
 -- The front job is chosen well.
 abbrev FrontWell : Bool → ℕ → ℕ → ℕ → ℕ → Option SlowRow → Type 0
@@ -117,16 +101,8 @@ stack_front :
     → Handed H D Q rs
     → FrontWell f t H D L (front rs)
 stack_front f t H D Q L [] q m s h = tt
-stack_front f t H D Q L (row j l e waiting ∷ rs) q m s h =
-    chosen_front f t H D Q L j l e waiting rs refl q (omega (arith, s.0)) s h tt
-stack_front true t H D Q L (row j l e (running b) ∷ rs) q m s h =
-    chosen_front true t H D Q L j l e (running b) rs refl q (omega (arith, s.0)) s h tt
-stack_front false t H D Q L (row j l e (running b) ∷ rs) q m s h = absurd s
-stack_front true t H D Q L (row j l e (aside b n) ∷ rs) q m s h = absurd s
-stack_front false t H D Q L (row j l e (aside b n) ∷ rs) q m s h =
-    chosen_front false t H D Q L j l e (aside b n) rs refl q (omega (arith, s.0)) s h refl
-stack_front f t H D Q L (row j l e (over s₁ b) ∷ rs) q m s h =
-    stack_front f t H D (Q + l) L rs (omega arith) (omega (arith, s.0)) s.2 h.1
+stack_front f t H D Q L (row j l e st ∷ rs) q m s h =
+    grind (arith, nat_tests, chosen_front f t H D Q L j l e st rs, stack_front f t H D (Q + l) L rs)
 
 sound_state : (s : State) → Invariant s → Sound (slow s)
 sound_state s v =
@@ -134,44 +110,26 @@ sound_state s v =
       one_runs = subst (λ n. n ≤ 1) (sym running-one) (one_at_most f);
       runs_first =
           λ somebody.
-          subst
-          (λ o. (m : SlowRow) × (o ≡ Some m) × (runs m.stage ≡ true))
-          (sym (first-is-leading started s.rows))
+          subst (λ o. (m : SlowRow) × (o ≡ Some m) × (runs m.stage ≡ true)) (sym (first-is-leading started s.rows))
           (stack_top t H 0 t (sorted s.rows) (subst (λ f. Stack t f H 0 t (sorted s.rows)) somebody v.stack));
       bounds_hold =
-          All-map
-          (λ r. BoundsHold t L r.stage)
-          slow_row
-          s.rows
+          All-map (λ r. BoundsHold t L r.stage) slow_row s.rows
           (all_sorted
-          (λ r. BoundsHold t L (slow_row r).stage)
-          s.rows
+          (λ r. BoundsHold t L (slow_row r).stage) s.rows
           (stack_bounds f t H 0 t L (sorted s.rows) (omega arith) within v.stack));
       resumable =
           λ nobody.
-          All-map
-          (λ r. Resumable t H r.stage)
-          slow_row
-          s.rows
+          All-map (λ r. Resumable t H r.stage) slow_row s.rows
           (all_sorted
-          (λ r. Resumable t H (slow_row r).stage)
-          s.rows
+          (λ r. Resumable t H (slow_row r).stage) s.rows
           (stack_resumable
-          t
-          H
-          H
-          0
-          t
-          (sorted s.rows)
-          (λ h. h)
+          t H H 0 t (sorted s.rows) (λ h. h)
           (subst (λ f. Stack t f H 0 t (sorted s.rows)) nobody v.stack)));
       handed_holds = omega (arith, within, stack_handed f t H 0 H D t (sorted s.rows) v.stack v.handed);
       chosen_well =
-          from_front
-          (first pending (map slow_row s.rows))
+          from_front (first pending (map slow_row s.rows))
           (subst
-          (FrontWell f t H D L)
-          (sym (first-is_front s.rows))
+          (FrontWell f t H D L) (sym (first-is_front s.rows))
           (stack_front f t H D t L (sorted s.rows) (omega arith) within v.stack v.handed));
     }
   where
@@ -194,8 +152,7 @@ sound_state s v =
     within = omega (arith, summed-sorted budget_of s.rows ∙ summed-budgets s.rows)
 
     one_at_most : (f : Bool) → cond f 1 0 ≤ 1
-    one_at_most true = omega arith
-    one_at_most false = omega arith
+    one_at_most f = grind (arith, nat_tests)
 
     running-one : how_many runs (map slow_row s.rows) ≡ cond f 1 0
     running-one =
@@ -210,41 +167,6 @@ sound_state s v =
 pub slow-run_sound : (cs : List Call) → Budgeted cs → Sound (SlowRun.run SlowRun.fresh cs)
 slow-run_sound cs p =
     subst Sound (slow-of_run both_fresh cs) (sound_state (both_run both_fresh cs) (invariant_always cs p))
-
--- The chosen job is one of the jobs, and its stage passes the test.
-abbrev ChosenHas : (SlowRow → Type 0) → Option SlowRow → Type 0
-ChosenHas P None = Unit {0}
-ChosenHas P (Some m) = P m
-
-chosen_has :
-    (P : SlowRow → Type 0) (test : Stage → Bool) (rows : List SlowRow)
-    → AllByRecursion P rows
-    → ChosenHas (λ m. (test m.stage ≡ true) × P m) (first test rows)
-chosen_has P test [] h = tt
-chosen_has P test (r ∷ rs) h = go (test r.stage) (first test rs) refl (chosen_has P test rs h.1)
-  where
-    go :
-        (v : Bool) (o : Option SlowRow)
-        → test r.stage ≡ v
-        → ChosenHas (λ m. (test m.stage ≡ true) × P m) o
-        → ChosenHas (λ m. (test m.stage ≡ true) × P m) (cond v (Some (earlier r o)) o)
-    go false o e k = k
-    go true None e k = (e, h.0)
-    go true (Some q) e k =
-        cond_both
-        (leb r.job.deadline q.job.deadline)
-        r
-        q
-        (λ m. (test m.stage ≡ true) × P m)
-        (λ _. (e, h.0))
-        (λ _. k)
-
-pub first-has :
-    (P : SlowRow → Type 0) (test : Stage → Bool) (rows : List SlowRow) (m : SlowRow)
-    → AllByRecursion P rows
-    → first test rows ≡ Some m
-    → (test m.stage ≡ true) × P m
-first-has P test rows m h e = subst (ChosenHas (λ m. (test m.stage ≡ true) × P m)) e (chosen_has P test rows h)
 
 -- The job that the next tick chooses is chosen well.
 pub chosen_well_at : (s : Slow) (m : SlowRow) → Sound s → first pending s.rows ≡ Some m → ChosenWell s (Some m)
