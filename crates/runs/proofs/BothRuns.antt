@@ -1,15 +1,15 @@
 -- Both runs of the same calls side by side, over one list of jobs in order of acceptance. Each run is a part of it, and
 -- sorted by priority it takes the steps of the sorted run.
-use Rattle.std.proofs.Common.{◌≡◌, ℕ, zero, suc, ◌+◌, ◌-◌, min, Bool, true, false, cond, not, ◌&&◌, eqb, ltb, leb, List, [], ◌∷◌, ◌++◌, map, Some, None, Option, sym, refl, ap, ◌∙◌, arith}
+use Rattle.std.proofs.Common.{◌≡◌, ℕ, ◌+◌, ◌-◌, Bool, cond, not, eqb, ltb, List, [], ◌∷◌, ◌++◌, map, Some, None, Option, sym, refl, ap, ◌∙◌, arith}
 use Rattle.std.proofs.lemmas.List.{map_push}
-use Rattle.std.proofs.lemmas.Bool.{cond_both, leb-true, leb-false, lt-ltb, ne_eqb}
+use Rattle.std.proofs.lemmas.Bool.Decides.{nat_tests}
 use Rattle.runs.specs.ReferenceRun
 use Rattle.runs.specs.ReferenceRun.{Reference, soonest, serve, serve_soonest}
 use Rattle.runs.specs.SlowRun
 use Rattle.runs.specs.SlowRun.{Call, arrival, tick, Stage, waiting, running, aside, over, Slow, SlowRow, pending, runs, somebody_runs, earlier, first, set_aside, make_way, put, stage_of, ticked}
 use Rattle.runs.specs.NeverBehind.{accepted}
-use Rattle.runs.proofs.SortedRun.{Both, row, due, slow_row, reference_row, ended, serve_first, front, yield, others, put_first, rows_at}
-use Rattle.runs.proofs.Sorting.{sorted, sorted-others, with_due, earliest, change, change_first, sorted-change, sorted-unchanged, leading, first-is-leading}
+use Rattle.runs.proofs.SortedRun.{Both, row, due, slow_row, reference_row, serve_first, front, others, put_first, rows_at}
+use Rattle.runs.proofs.Sorting.{sorted, sorted-others, earliest, change, change_first, sorted-change, sorted-unchanged, leading, first-is-leading}
 
 -- Both runs at once.
 pub record State : Type 0 where
@@ -87,17 +87,7 @@ change-unseen :
     → (d : ℕ) (rs : List Both)
     → map view (change test new d rs) ≡ map view rs
 change-unseen view test new same d [] = refl
-change-unseen {X} view test new same d (r ∷ rs) =
-    cond_both (test r && eqb (due r) d) (new r ∷ rs) (r ∷ change test new d rs) (λ l. map view l ≡ (view r ∷ map view rs))
-    (λ _. ap (λ (x : X). x ∷ map view rs) (same r)) (λ _. ap (λ (l : List X). view r ∷ l) (change-unseen view test new same d rs))
-
-map-cond :
-    {X : Type 0} (view : Both → X) (v : Bool) (a b : List Both) {x y : List X}
-    → map view a ≡ x
-    → map view b ≡ y
-    → map view (cond v a b) ≡ cond v x y
-map-cond view true a b p q = p
-map-cond view false a b p q = q
+change-unseen view test new same d (r ∷ rs) = grind (arith, nat_tests, same r, change-unseen view test new same d rs)
 
 served-unseen : (after : ℕ) (o : Option ℕ) (rs : List Both) → map slow_row (served_rows after o rs) ≡ map slow_row rs
 served-unseen after None rs = refl
@@ -114,9 +104,7 @@ served-seen after (Some d) rs = go rs
   where
     go : (rs : List Both) → map reference_row (change has_left (serve_row after) d rs) ≡ serve after d (map reference_row rs)
     go [] = refl
-    go (row j l e st ∷ rs) =
-        map-cond reference_row (ltb 0 l && eqb j.deadline d) (serve_row after (row j l e st) ∷ rs)
-        (row j l e st ∷ change has_left (serve_row after) d rs) refl (ap (λ r. record { job = j; left = l; end = e } ∷ r) (go rs))
+    go (row j l e st ∷ rs) = grind (arith, nat_tests, go rs)
 
 others-unseen : (switch : Bool) (t : ℕ) (rs : List Both) → map reference_row (others switch t rs) ≡ map reference_row rs
 others-unseen switch t [] = refl
@@ -137,31 +125,14 @@ chosen_unseen s early (Some m) rs =
 others-seen :
     (stage : Stage) (t : ℕ) (rs : List Both)
     → map slow_row (others (not (runs stage)) t rs) ≡ make_way stage t (map slow_row rs)
-others-seen stage t rs = go (runs stage) rs
-  where
-    go :
-        (v : Bool) (rs : List Both)
-        → map slow_row (others (not v) t rs)
-        ≡ cond v (map slow_row rs) (map (λ r. record { job = r.job; stage = set_aside t r.stage }) (map slow_row rs))
-    go true [] = refl
-    go false [] = refl
-    go true (row j l e waiting ∷ rs) = ap (λ r. record { job = j; stage = waiting } ∷ r) (go true rs)
-    go true (row j l e (running b) ∷ rs) = ap (λ r. record { job = j; stage = running b } ∷ r) (go true rs)
-    go true (row j l e (aside b n) ∷ rs) = ap (λ r. record { job = j; stage = aside b n } ∷ r) (go true rs)
-    go true (row j l e (over s b) ∷ rs) = ap (λ r. record { job = j; stage = over s b } ∷ r) (go true rs)
-    go false (row j l e waiting ∷ rs) = ap (λ r. record { job = j; stage = waiting } ∷ r) (go false rs)
-    go false (row j l e (running b) ∷ rs) = ap (λ r. record { job = j; stage = aside b t } ∷ r) (go false rs)
-    go false (row j l e (aside b n) ∷ rs) = ap (λ r. record { job = j; stage = aside b n } ∷ r) (go false rs)
-    go false (row j l e (over s b) ∷ rs) = ap (λ r. record { job = j; stage = over s b } ∷ r) (go false rs)
+others-seen stage t [] = grind (arith, nat_tests)
+others-seen stage t (row j l e st ∷ rs) = grind (arith, nat_tests, others-seen stage t rs)
 
 put-seen :
     (d : ℕ) (stage : Stage) (rs : List Both)
     → map slow_row (change is_pending (restage stage) d rs) ≡ put d stage (map slow_row rs)
 put-seen d stage [] = refl
-put-seen d stage (row j l e st ∷ rs) =
-    map-cond slow_row (pending st && eqb j.deadline d) (row j l e stage ∷ rs)
-    (row j l e st ∷ change is_pending (restage stage) d rs) refl
-    (ap (λ r. record { job = j; stage = st } ∷ r) (put-seen d stage rs))
+put-seen d stage (row j l e st ∷ rs) = grind (arith, nat_tests, put-seen d stage rs)
 
 slow-of_ticked :
     (s : State) (early : Bool) (m : Option SlowRow) (d : Option ℕ)
@@ -231,21 +202,11 @@ reference-of_run s (c ∷ cs) =
 -- The reference run's tick, sorted.
 soonest-is_earliest : (rs : List Both) → soonest (map reference_row rs) ≡ earliest has_left rs
 soonest-is_earliest [] = refl
-soonest-is_earliest (row j l e st ∷ rs) =
-    ap (with_due (ltb 0 l) j.deadline) (soonest-is_earliest rs)
+soonest-is_earliest (row j l e st ∷ rs) = cc (soonest-is_earliest rs)
 
 serve-is_change : (after : ℕ) (l : List Both) → change_first has_left (serve_row after) l ≡ serve_first after l
 serve-is_change after [] = refl
-serve-is_change after (row j zero e st ∷ rs) = ap (λ r. row j zero e st ∷ r) (serve-is_change after rs)
-serve-is_change after (row j (suc l) e st ∷ rs) =
-    rw (lt-ltb 0 (suc l) (omega arith)) (λ i. row j (one_less i) (end l i) st ∷ rs)
-  where
-    one_less : suc l - 1 ≡ l
-    one_less = omega arith
-
-    end : (l : ℕ) → cond (eqb (suc l) 1) (Some after) e ≡ ended after l e
-    end zero = refl
-    end (suc k) = rw (ne_eqb (suc (suc k)) 1 (λ h. omega arith)) refl
+serve-is_change after (row j l e st ∷ rs) = grind (arith, nat_tests, serve-is_change after rs)
 
 sorted-served :
     (after : ℕ) (rs : List Both)
@@ -265,10 +226,7 @@ sorted-served after rs = go (soonest (map reference_row rs)) (soonest-is_earlies
 -- The slowed run's tick, sorted.
 put-is_change : (stage : Stage) (l : List Both) → change_first is_pending (restage stage) l ≡ put_first stage l
 put-is_change stage [] = refl
-put-is_change stage (row j l e waiting ∷ rs) = refl
-put-is_change stage (row j l e (running b) ∷ rs) = refl
-put-is_change stage (row j l e (aside b n) ∷ rs) = refl
-put-is_change stage (row j l e (over s b) ∷ rs) = ap (λ r. row j l e (over s b) ∷ r) (put-is_change stage rs)
+put-is_change stage (row j l e st ∷ rs) = grind (arith, nat_tests, put-is_change stage rs)
 
 abbrev deadline_of : Option SlowRow → Option ℕ
 deadline_of None = None
@@ -276,35 +234,12 @@ deadline_of (Some m) = Some m.job.deadline
 
 earliest-pending : (rs : List Both) → earliest is_pending rs ≡ deadline_of (first pending (map slow_row rs))
 earliest-pending [] = refl
-earliest-pending (row j l e st ∷ rs) =
-    ap (with_due (pending st) j.deadline) (earliest-pending rs)
-    ∙ go (pending st) (first pending (map slow_row rs))
-  where
-    go :
-        (v : Bool) (m : Option SlowRow)
-        → with_due v j.deadline (deadline_of m)
-        ≡ deadline_of (cond v (Some (earlier (record { job = j; stage = st }) m)) m)
-    go false m = refl
-    go true None = refl
-    go true (Some q) =
-        cond_both (leb j.deadline q.job.deadline) (record { job = j; stage = st }) q
-        (λ r. Some (min j.deadline q.job.deadline) ≡ Some r.job.deadline)
-        (λ v. ap (λ d. Some d) (omega (arith, leb-true j.deadline q.job.deadline v)))
-        (λ v. ap (λ d. Some d) (omega (arith, leb-false j.deadline q.job.deadline v)))
+earliest-pending (row j l e st ∷ rs) = grind (arith, nat_tests, earliest-pending rs)
 
 earliest-others :
     (switch : Bool) (t : ℕ) (rs : List Both) → earliest is_pending (others switch t rs) ≡ earliest is_pending rs
 earliest-others switch t [] = refl
-earliest-others switch t (row j l e st ∷ rs) =
-    ap (λ v. with_due v j.deadline (earliest is_pending (others switch t rs))) (same switch st)
-    ∙ ap (with_due (pending st) j.deadline) (earliest-others switch t rs)
-  where
-    same : (switch : Bool) (st : Stage) → pending (yield switch t st) ≡ pending st
-    same switch waiting = refl
-    same true (running b) = refl
-    same false (running b) = refl
-    same switch (aside b n) = refl
-    same switch (over s b) = refl
+earliest-others switch t (row j l e st ∷ rs) = grind (arith, nat_tests, earliest-others switch t rs)
 
 sorted-chosen :
     (s : Slow) (early : Bool) (m : Option SlowRow) (rs : List Both)
@@ -326,10 +261,7 @@ sorted-chosen s early (Some m) rs h =
 
 front-is_leading : (l : List Both) → leading pending l ≡ front l
 front-is_leading [] = refl
-front-is_leading (row j l e waiting ∷ rs) = refl
-front-is_leading (row j l e (running b) ∷ rs) = refl
-front-is_leading (row j l e (aside b n) ∷ rs) = refl
-front-is_leading (row j l e (over s b) ∷ rs) = front-is_leading rs
+front-is_leading (row j l e st ∷ rs) = grind (arith, nat_tests, front-is_leading rs)
 
 pub first-is_front : (rs : List Both) → first pending (map slow_row rs) ≡ front (sorted rs)
 first-is_front rs = first-is-leading pending rs ∙ front-is_leading (sorted rs)

@@ -1,12 +1,13 @@
 -- A missed job shows an overload. For each deadline d, the ticks left of the jobs due by d are the backlog: a tick takes one
 -- from it as long as there is one. While there is a backlog, some clock a has it, with the ticks since a, inside the demand of [a, d).
 -- So a job that still has ticks left at its deadline, or has just ended after it, gives an interval that demands too much.
-use Rattle.std.proofs.Common.{◌≡◌, ℕ, ◌+◌, ◌-◌, ◌<◌, ◌≤◌, cond, eqb, leb, ◌⊎◌, List, [], ◌∷◌, ◌++◌, Some, None, sum_by, Option, sym, refl, ap, ◌∙◌, subst, subst₂, inl, inr, ⊎_elim, arith}
+use Rattle.std.proofs.Common.{◌≡◌, ℕ, ◌+◌, ◌-◌, ◌<◌, ◌≤◌, cond, leb, ◌⊎◌, List, [], ◌∷◌, ◌++◌, Some, None, sum_by, Option, sym, refl, subst, subst₂, inl, inr, ⊎_elim, arith}
 use Rattle.std.specs.List.{ContainsAt, AllByRecursion}
 use Rattle.std.proofs.lemmas.List.{map_push}
-use Rattle.std.proofs.lemmas.Bool.{cond_both, cond-true, leb-true, le-leb, and_from, cases_lt}
+use Rattle.std.proofs.lemmas.Bool.{cond_both, leb-true, cases_lt}
 use Rattle.std.proofs.ByRecursion.{All-weaker, All-push, all-has}
 use Rattle.std.proofs.lemmas.List.Sums.{sum_by_push}
+use Rattle.std.proofs.lemmas.Bool.Decides.{nat_tests}
 use Rattle.cues.specs.Demand.{Job, demand, Overloaded}
 use Rattle.runs.specs.ReferenceRun.{Accepted, released, ticked, Row, Reference, fresh, served, step, run}
 use Rattle.runs.specs.Deadlines.{jobs, Sound, OverBy, Missed}
@@ -22,10 +23,10 @@ abbrev backlog : ℕ → List Row → ℕ
 backlog d rows = sum_by (owed d) rows
 
 owed-due : (d : ℕ) (r : Row) → r.job.deadline ≤ d → owed d r ≡ r.left
-owed-due d r due = cond-true _ _ _ (le-leb _ d due)
+owed-due d r due = grind (arith, nat_tests)
 
 owed_none : (d : ℕ) (r : Row) → (r.job.deadline ≤ d → r.left ≡ 0) → owed d r ≡ 0
-owed_none d r none = cond_both (leb r.job.deadline d) _ _ (λ x. x ≡ 0) (λ due. none (leb-true _ d due)) (λ later. refl)
+owed_none d r none = grind (arith, nat_tests)
 
 -- A tick takes one from every backlog that there is.
 backlog-ticked : (after : ℕ) (rows : List Row) (d : ℕ) → backlog d (ticked_rows after rows) ≡ backlog d rows - 1
@@ -55,9 +56,7 @@ abbrev Behind : ℕ → List Job → ℕ → ℕ → Type 0
 Behind clock js d u = (u ≡ 0) ⊎ ((a : ℕ) × (a ≤ clock) × (a < d) × (u + (clock - a) ≤ demand js a d))
 
 behind_ticked : (clock : ℕ) (js : List Job) (d u : ℕ) → Behind clock js d u → Behind (clock + 1) js d (u - 1)
-behind_ticked clock js d u (inl none) = inl (omega arith)
-behind_ticked clock js d u (inr (a, past, before, fits)) =
-    ⊎_elim (λ some. inr (a, omega arith, before, omega arith)) (λ none. inl (omega arith)) (cases_lt 0 u)
+behind_ticked clock js d u behind = grind (arith, nat_tests)
 
 -- The job that a call releases at a clock.
 abbrev job_released : ℕ → ℕ → ℕ → Job
@@ -68,7 +67,7 @@ module _ (clock deadline budget : ℕ) (js : List Job) (d u : ℕ) where
   new = job_released clock deadline budget
 
   demand-with-new : (a : ℕ) → a ≤ clock → deadline ≤ d → demand (js ++ new ∷ []) a d ≡ demand js a d + budget
-  demand-with-new a past due = demand-push js new a d ∙ ap (λ x. demand js a d + x) (cond-true _ budget 0 (and_from _ _ (le-leb a clock past) (le-leb deadline d due)))
+  demand-with-new a past due = grind (arith, nat_tests, demand-push js new a d)
 
   behind-released : clock < deadline → Behind clock js d u → Behind clock (js ++ new ∷ []) d (u + cond (leb deadline d) budget 0)
   behind-released ahead behind =
@@ -80,8 +79,7 @@ module _ (clock deadline budget : ℕ) (js : List Job) (d u : ℕ) where
       due h (inr (a, past, before, fits)) = inr (a, past, before, omega (arith, demand-with-new a past h))
 
       later : Behind clock js d u → Behind clock (js ++ new ∷ []) d (u + 0)
-      later (inl none) = inl (omega arith)
-      later (inr (a, past, before, fits)) = inr (a, past, before, omega (arith, demand-push js new a d))
+      later behind = grind (arith, nat_tests, λ (a : ℕ). demand-push js new a d)
 
 -- A backlog at or past its deadline is an overload.
 behind_late : (clock : ℕ) (js : List Job) (d u : ℕ) → d ≤ clock → 0 < u → Behind clock js d u → Overloaded js
@@ -94,8 +92,7 @@ Prompt js deadline None = Unit {0}
 Prompt js deadline (Some end) = (end ≤ deadline) ⊎ Overloaded js
 
 prompt_push : (js : List Job) (j : Job) (deadline : ℕ) (o : Option ℕ) → Prompt js deadline o → Prompt (js ++ j ∷ []) deadline o
-prompt_push js j deadline None prompt = tt
-prompt_push js j deadline (Some end) prompt = ⊎_elim inl (λ over. inr (overloaded_push js j over)) prompt
+prompt_push js j deadline o prompt = grind (arith, nat_tests, overloaded_push js j)
 
 -- What holds throughout a run.
 pub record OnTime (s : Reference) : Type 0 where
@@ -147,10 +144,7 @@ ticked-on_time s o =
     same-jobs = tick_jobs (s.clock + 1) s.rows
 
     served-prompt : (r : Row) → ContainsAt s.rows r → 0 < r.left → Prompt (jobs s) r.job.deadline r.end → Prompt (jobs s) r.job.deadline (served (s.clock + 1) r).end
-    served-prompt r has working prompt =
-        cond_both (eqb r.left 1) _ _ (Prompt (jobs s) r.job.deadline)
-        (λ last. ⊎_elim (λ early. inl (omega arith)) (λ late. inr (overload_from s o r has working (omega arith))) (cases_lt s.clock r.job.deadline))
-        (λ more. prompt)
+    served-prompt r has working prompt = grind (arith, nat_tests, overload_from s o r has)
 
 pub always_on_time : (calls : List Accepted) → Sound 0 calls → OnTime (run fresh calls)
 always_on_time calls sound = run-keeps OnTime released-on_time ticked-on_time calls fresh sound fresh-on_time
@@ -161,6 +155,4 @@ missed_shows_overload s o r has (come, late) =
     go r.end (all-has _ s.rows r o.regular has).1 (all-has _ s.rows r o.prompt has) late
   where
     go : (end : Option ℕ) → Agree r.left end → Prompt (jobs s) r.job.deadline end → ¬ OverBy r.job.deadline end → Overloaded (jobs s)
-    go None working prompt late = overload_from s o r has working come
-    go (Some end) over (inl early) late = absurd (late early)
-    go (Some end) over (inr overloaded) late = overloaded
+    go end agree prompt late = grind (arith, nat_tests, overload_from s o r has)

@@ -1,9 +1,9 @@
 -- What holds at the start of a reference run, and is kept by each accepted call, holds at its end. So it is with the rows:
 -- each job has been released by now, and it has ticks left exactly as long as it has no end.
-use Rattle.std.proofs.Common.{◌≡◌, ℕ, ◌+◌, ◌-◌, ◌<◌, ◌≤◌, eqb, List, [], ◌∷◌, Some, None, Option, arith}
+use Rattle.std.proofs.Common.{◌≡◌, ℕ, ◌+◌, ◌<◌, ◌≤◌, List, [], ◌∷◌, Some, None, Option, arith}
 use Rattle.std.specs.List.{AllByRecursion}
-use Rattle.std.proofs.lemmas.Bool.{cond_both, eqb-true, eqb-false}
 use Rattle.std.proofs.ByRecursion.{All-push}
+use Rattle.std.proofs.lemmas.Bool.Decides.{nat_tests}
 use Rattle.runs.specs.ReferenceRun.{Accepted, released, ticked, Row, Reference, served, step, run}
 use Rattle.runs.specs.Deadlines.{Sound}
 use Rattle.runs.proofs.ReferenceTick.{tick_all}
@@ -27,13 +27,7 @@ abbrev pub AllRegular : Reference → Type 0
 AllRegular s = AllByRecursion (Regular s.clock) s.rows
 
 served-agrees : (after : ℕ) (r : Row) → 0 < r.left → Agree r.left r.end → Agree (served after r).left (served after r).end
-served-agrees after r working agree =
-    cond_both (eqb r.left 1) _ _ (Agree (r.left - 1))
-    (λ last. omega (arith, eqb-true r.left 1 last)) (λ more. unended r.end agree (eqb-false r.left 1 more))
-  where
-    unended : (o : Option ℕ) → Agree r.left o → (r.left ≡ 1 → ⊥) → Agree (r.left - 1) o
-    unended None positive more = omega arith
-    unended (Some end) over more = omega arith
+served-agrees after r working agree = grind (arith, nat_tests)
 
 pub regular_released : (s : Reference) (deadline budget : ℕ) → 1 ≤ budget → AllRegular s → AllRegular (step s (released deadline budget))
 regular_released s deadline budget some all = All-push (Regular s.clock) s.rows _ all (omega arith, some)

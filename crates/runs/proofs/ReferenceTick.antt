@@ -1,11 +1,12 @@
 -- A tick of the reference run goes to one job, which has ticks left and is due no later than any other such job;
 -- where no job has ticks left, it changes no row. What holds of every row, and sums over the rows, follow a tick by that.
-use Rattle.std.proofs.Common.{◌≡◌, ℕ, suc, ◌+◌, ◌<◌, ◌≤◌, Bool, true, false, ◌&&◌, eqb, ltb, List, [], ◌∷◌, map, length, get_or, set, is_some, Some, None, sum_by, Option, sym, refl, ap, ◌∙◌, subst, arith}
+use Rattle.std.proofs.Common.{◌≡◌, ℕ, suc, ◌+◌, ◌<◌, ◌≤◌, Bool, true, false, ◌&&◌, eqb, ltb, List, [], ◌∷◌, map, length, get_or, set, Some, None, sum_by, Option, sym, refl, ap, ◌∙◌, subst, arith}
 use lib.Seq.{map-set_same}
 use Rattle.std.specs.List.{ContainsAt, AllByRecursion}
-use Rattle.std.proofs.lemmas.Bool.{false≢true, cond_both, cond-true, cond-false, ltb-true, ltb-false, eqb-true, eqb-false, and_parts, and_from, and_left, and_right}
+use Rattle.std.proofs.lemmas.Bool.{cond-true, cond-false, ltb-true, eqb-true, eqb-false, and_parts, and_from, and_left, and_right}
 use Rattle.std.proofs.ByRecursion.{All-weaker, All-set, all-has, has_get_or}
 use Rattle.std.proofs.lemmas.List.Sums.{sum_by-set}
+use Rattle.std.proofs.lemmas.Bool.Decides.{nat_tests}
 use Rattle.runs.specs.ReferenceRun.{Row, sooner, soonest, served, serve, serve_soonest}
 
 -- Every job with ticks left is due at d or later.
@@ -26,15 +27,11 @@ soonest-with r rows None rest = ((λ h. omega arith), All-weaker _ _ (λ x z h. 
 soonest-with r rows (Some d) rest = ((λ h. omega arith), All-weaker _ _ (λ x f h. omega (arith, f h)) rows rest)
 
 soonest-without : (r : Row) (rows : List Row) (o : Option ℕ) → r.left ≡ 0 → Soonest o rows → Soonest o (r ∷ rows)
-soonest-without r rows None z rest = (z, rest)
-soonest-without r rows (Some d) z rest = ((λ h. omega arith), rest)
+soonest-without r rows o z rest = grind (arith, nat_tests)
 
 soonest-is_first : (rows : List Row) → Soonest (soonest rows) rows
 soonest-is_first [] = tt
-soonest-is_first (r ∷ rows) =
-    cond_both (ltb 0 r.left) _ _ (λ o. Soonest o (r ∷ rows))
-    (λ e. soonest-with r rows (soonest rows) (soonest-is_first rows))
-    (λ e. soonest-without r rows (soonest rows) (omega (arith, ltb-false 0 r.left e)) (soonest-is_first rows))
+soonest-is_first (r ∷ rows) = grind (arith, nat_tests, soonest-with r rows (soonest rows), soonest-without r rows (soonest rows), soonest-is_first rows)
 
 -- The job that a tick goes to: at its place, with ticks left, and due at d.
 pub record Served (d : ℕ) (rows : List Row) : Type 0 where
@@ -80,8 +77,7 @@ finds_later after d r rows e (s, becomes) = (
 )
 
 sooner-of_rest : (d e : ℕ) (o : Option ℕ) → (d ≡ e → ⊥) → sooner d o ≡ e → o ≡ Some e
-sooner-of_rest d e None other is = absurd (other is)
-sooner-of_rest d e (Some f) other is = ap Some (omega arith)
+sooner-of_rest d e o other is = grind (arith, nat_tests)
 
 serve-finds : (after d : ℕ) (rows : List Row) → soonest rows ≡ Some d → Finds after d rows
 serve-finds after d [] is = cc

@@ -1,11 +1,12 @@
 -- An overload shows a missed job. The work done for the jobs inside [a, b) is, as long as the clock is at b or before it,
 -- at most the ticks since a; so the budgets of those that are over by b are never more than the ticks of [a, b).
 -- If no job is missed once all deadlines have come, all of those are over by b, and their budgets are the whole demand.
-use Rattle.std.proofs.Common.{◌≡◌, ℕ, ◌+◌, ◌-◌, ◌<◌, ◌≤◌, Bool, true, false, cond, eqb, leb, ◌⊎◌, List, [], ◌∷◌, map, Some, None, sum_by, Option, refl, inl, inr, ⊎_elim, arith}
+use Rattle.std.proofs.Common.{◌≡◌, ℕ, ◌+◌, ◌-◌, ◌<◌, ◌≤◌, Bool, true, cond, eqb, leb, ◌⊎◌, List, [], ◌∷◌, map, Some, None, sum_by, Option, refl, inl, inr, ⊎_elim, arith}
 use Rattle.std.specs.List.{ContainsAt, AllByRecursion}
-use Rattle.std.proofs.lemmas.Bool.{cond_both, cond-true, leb-true, le-leb, and_parts, cases_lt}
+use Rattle.std.proofs.lemmas.Bool.{cases_lt}
 use Rattle.std.proofs.ByRecursion.{All-weaker, all-has}
 use Rattle.std.proofs.lemmas.List.Sums.{sum_by_push}
+use Rattle.std.proofs.lemmas.Bool.Decides.{nat_tests}
 use Rattle.cues.specs.Demand.{demand, inside}
 use Rattle.runs.specs.ReferenceRun.{Accepted, released, ticked, Row, Reference, fresh, served, step, run}
 use Rattle.runs.specs.Deadlines.{Sound, jobs, last_deadline, OverBy}
@@ -30,23 +31,18 @@ abbrev within : ℕ → ℕ → (Row → ℕ) → Row → ℕ
 within a b f r = cond (inside a b r.job) (f r) 0
 
 within-le : (t : Bool) (x y k : ℕ) → (t ≡ true → x ≤ y + k) → cond t x 0 ≤ cond t y 0 + k
-within-le true x y k le = le refl
-within-le false x y k le = omega arith
+within-le t x y k le = grind (arith, nat_tests)
 
 inside-parts : (a b : ℕ) (r : Row) → inside a b r.job ≡ true → (a ≤ r.job.release) × (r.job.deadline ≤ b)
-inside-parts a b r e = (leb-true _ _ (and_parts _ _ e).0, leb-true _ _ (and_parts _ _ e).1)
+inside-parts a b r e = grind (arith, nat_tests)
 
 -- What is over has its whole budget done.
 paid-is_done : (b left budget : ℕ) (o : Option ℕ) → Agree left o → paid b budget o ≤ budget - left
-paid-is_done b left budget None working = omega arith
-paid-is_done b left budget (Some end) none = cond_both (leb end b) _ _ (λ x. x ≤ budget - left) (λ e. omega arith) (λ e. omega arith)
+paid-is_done b left budget o agree = grind (arith, nat_tests)
 
 -- A job that is served after b is not over by b.
 paid-served : (b after left budget : ℕ) (o : Option ℕ) → b < after → paid b budget (cond (eqb left 1) (Some after) o) ≤ paid b budget o
-paid-served b after left budget o past =
-    cond_both (eqb left 1) _ _ (λ end. paid b budget end ≤ paid b budget o)
-    (λ last. cond_both (leb after b) _ _ (λ x. x ≤ paid b budget o) (λ e. absurd (omega (arith, leb-true after b e))) (λ e. omega arith))
-    (λ more. omega arith)
+paid-served b after left budget o past = grind (arith, nat_tests)
 
 module _ (a b : ℕ) where
   -- What holds throughout a run.
@@ -70,7 +66,7 @@ module _ (a b : ℕ) where
       row = record { job = record { release = s.clock; deadline = deadline; budget = budget }; left = budget; end = None }
 
       none : (g : Row → ℕ) → g row ≡ 0 → within a b g row ≡ 0
-      none g z = cond_both (inside a b row.job) _ _ (λ x. x ≡ 0) (λ e. z) (λ e. refl)
+      none g z = grind (arith, nat_tests)
 
   ticked-fits : (s : Reference) → Fits s → Fits (step s ticked)
   ticked-fits s f =
@@ -129,8 +125,7 @@ in_time_fits a b s f in_time =
     budgets = within a b (λ r. r.job.budget)
 
     paid-whole : (budget deadline : ℕ) (o : Option ℕ) → deadline ≤ b → OverBy deadline o → budget ≤ paid b budget o
-    paid-whole budget deadline None due early = absurd early
-    paid-whole budget deadline (Some end) due early = omega (arith, cond-true (leb end b) budget 0 (le-leb end b (omega arith)))
+    paid-whole budget deadline o due early = grind (arith, nat_tests)
 
     whole : (r : Row) → OverBy r.job.deadline r.end → budgets r ≤ within a b (over b) r
     whole r early =

@@ -1,7 +1,8 @@
 -- The law over whole runs: the slowed run is never behind the reference run, and its bounds hold.
-use Rattle.std.proofs.Common.{◌≡◌, ℕ, ◌+◌, ◌-◌, ◌≤◌, Bool, true, false, cond, List, [], ◌∷◌, map, Some, None, Option, sym, refl, ◌∙◌, subst, subst₂, arith}
+use Rattle.std.proofs.Common.{◌≡◌, ℕ, ◌+◌, ◌≤◌, Bool, cond, List, [], ◌∷◌, map, Some, None, Option, sym, refl, ◌∙◌, subst, subst₂, arith}
 use mathlib.Core.Path.{subst₃}
 use Rattle.std.specs.List.{AllByRecursion}
+use Rattle.std.proofs.lemmas.Bool.Decides.{nat_tests}
 use Rattle.runs.specs.ReferenceRun
 use Rattle.runs.specs.SlowRun
 use Rattle.runs.specs.SlowRun.{Call, arrival, tick, waiting, running, aside, over, Slow, SlowRow, pending, runs, somebody_runs, first, ticked}
@@ -17,23 +18,14 @@ abbrev pub one_if_runs : Both → ℕ
 one_if_runs r = cond (runs (slow_row r).stage) 1 0
 
 pub stack_runs : (f : Bool) (t E W Q : ℕ) (rs : List Both) → Stack t f E W Q rs → summed one_if_runs rs ≡ cond f 1 0
-stack_runs true t E W Q [] s = absurd s
-stack_runs false t E W Q [] s = refl
-stack_runs f t E W Q (row j l e waiting ∷ rs) s = omega (arith, stack_runs f t E (W + l) (Q + l) rs s.2)
-stack_runs true t E W Q (row j l e (running b) ∷ rs) s = omega (arith, stack_runs false t b W (Q + l) rs s.2)
-stack_runs false t E W Q (row j l e (running b) ∷ rs) s = absurd s
-stack_runs true t E W Q (row j l e (aside b n) ∷ rs) s = absurd s
-stack_runs false t E W Q (row j l e (aside b n) ∷ rs) s = omega (arith, stack_runs false t (b + E - n) W (Q + l) rs s.2)
-stack_runs f t E W Q (row j l e (over s₁ b) ∷ rs) s = omega (arith, stack_runs f t E W (Q + l) rs s.2)
+stack_runs f t E W Q [] s = grind (arith, nat_tests)
+stack_runs f t E W Q (row j l e st ∷ rs) s =
+    let below = λ (f : Bool) (E W : ℕ). stack_runs f t E W (Q + l) rs in
+    grind (arith, nat_tests, below)
 
 somebody_from_count : (f : Bool) (rs : List Both) → summed one_if_runs rs ≡ cond f 1 0 → somebody_runs (map slow_row rs) ≡ f
-somebody_from_count true [] h = absurd (omega arith)
-somebody_from_count false [] h = refl
-somebody_from_count f (row j l e waiting ∷ rs) h = somebody_from_count f rs (omega arith)
-somebody_from_count true (row j l e (running b) ∷ rs) h = refl
-somebody_from_count false (row j l e (running b) ∷ rs) h = absurd (omega arith)
-somebody_from_count f (row j l e (aside b n) ∷ rs) h = somebody_from_count f rs (omega arith)
-somebody_from_count f (row j l e (over s b) ∷ rs) h = somebody_from_count f rs (omega arith)
+somebody_from_count f [] h = grind (arith, nat_tests)
+somebody_from_count f (row j l e st ∷ rs) h = grind (arith, nat_tests, somebody_from_count f rs)
 
 stack_somebody :
     (f : Bool) (t E W Q : ℕ) (rs : List Both) → Stack t f E W Q (sorted rs) → somebody_runs (map slow_row rs) ≡ f
@@ -133,12 +125,9 @@ RowAgrees r = NotBehind (slow_row r).stage (reference_row r).end
 
 stack_agrees : (f : Bool) (t E W Q : ℕ) (rs : List Both) → Stack t f E W Q rs → AllByRecursion RowAgrees rs
 stack_agrees f t E W Q [] s = tt
-stack_agrees f t E W Q (row j l e waiting ∷ rs) s = (s.1, stack_agrees f t E (W + l) (Q + l) rs s.2)
-stack_agrees true t E W Q (row j l e (running b) ∷ rs) s = (s.1, stack_agrees false t b W (Q + l) rs s.2)
-stack_agrees false t E W Q (row j l e (running b) ∷ rs) s = absurd s
-stack_agrees true t E W Q (row j l e (aside b n) ∷ rs) s = absurd s
-stack_agrees false t E W Q (row j l e (aside b n) ∷ rs) s = (s.1, stack_agrees false t (b + E - n) W (Q + l) rs s.2)
-stack_agrees f t E W Q (row j l e (over s₁ b) ∷ rs) s = (s.1, stack_agrees f t E W (Q + l) rs s.2)
+stack_agrees f t E W Q (row j l e st ∷ rs) s =
+    let below = λ (f : Bool) (E W : ℕ). stack_agrees f t E W (Q + l) rs in
+    grind (arith, nat_tests, below)
 
 rows_agree : (rs : List Both) → AllByRecursion RowAgrees rs → RowsAgree (map slow_row rs) (map reference_row rs)
 rows_agree [] h = tt

@@ -1,8 +1,8 @@
 -- What holds in every slowed run by itself, read off the invariant.
-use Rattle.std.proofs.Common.{◌≡◌, ℕ, ◌+◌, ◌-◌, ◌<◌, ◌≤◌, Bool, true, false, cond, leb, List, [], ◌∷◌, map, Some, None, Option, sym, refl, ap, ◌∙◌, subst, arith}
+use Rattle.std.proofs.Common.{◌≡◌, ℕ, ◌+◌, ◌-◌, ◌<◌, ◌≤◌, Bool, true, false, cond, List, [], ◌∷◌, map, Some, None, Option, sym, refl, ap, ◌∙◌, subst, arith}
 use Rattle.std.specs.List.{AllByRecursion}
 use Rattle.std.proofs.ByRecursion.{All-map}
-use Rattle.std.proofs.lemmas.Bool.{cond_both}
+use Rattle.std.proofs.lemmas.Bool.Decides.{nat_tests}
 use Rattle.cues.specs.Demand.{Job}
 use Rattle.runs.specs.SlowRun
 use Rattle.runs.specs.SlowRun.{Call, Stage, waiting, running, aside, over, Slow, SlowRow, pending, runs, somebody_runs, earlier, first, bound_of}
@@ -33,16 +33,9 @@ stack_bounds :
     → Stack t f E W Q rs
     → AllByRecursion (λ r. BoundsHold t L (slow_row r).stage) rs
 stack_bounds f t E W Q L [] q h s = tt
-stack_bounds f t E W Q L (row j l e waiting ∷ rs) q h s =
-    (tt, stack_bounds f t E (W + l) (Q + l) L rs (omega arith) (omega (arith, s.0)) s.2)
-stack_bounds true t E W Q L (row j l e (running b) ∷ rs) q h s =
-    (omega (arith, s.0), stack_bounds false t b W (Q + l) L rs (omega arith) (omega (arith, s.0)) s.2)
-stack_bounds false t E W Q L (row j l e (running b) ∷ rs) q h s = absurd s
-stack_bounds true t E W Q L (row j l e (aside b n) ∷ rs) q h s = absurd s
-stack_bounds false t E W Q L (row j l e (aside b n) ∷ rs) q h s =
-    (omega (arith, s.0), stack_bounds false t (b + E - n) W (Q + l) L rs (omega arith) (omega (arith, s.0)) s.2)
-stack_bounds f t E W Q L (row j l e (over s₁ b) ∷ rs) q h s =
-    (omega (arith, s.0), stack_bounds f t E W (Q + l) L rs (omega arith) (omega (arith, s.0)) s.2)
+stack_bounds f t E W Q L (row j l e st ∷ rs) q h s =
+    let below = λ (f : Bool) (E W : ℕ). stack_bounds f t E W (Q + l) L rs in
+    grind (arith, nat_tests, below)
 
 -- Where nobody runs, the first job set aside waits for the handed bound H.
 stack_resumable :
@@ -51,11 +44,9 @@ stack_resumable :
     → Stack t false E W Q rs
     → AllByRecursion (λ r. Resumable t H (slow_row r).stage) rs
 stack_resumable t H E W Q [] h s = tt
-stack_resumable t H E W Q (row j l e waiting ∷ rs) h s = (tt, stack_resumable t H E (W + l) (Q + l) rs h s.2)
-stack_resumable t H E W Q (row j l e (running b) ∷ rs) h s = absurd s
-stack_resumable t H E W Q (row j l e (aside b n) ∷ rs) h s =
-    (h s.0.4, stack_resumable t H (b + E - n) W (Q + l) rs (λ _. h s.0.4) s.2)
-stack_resumable t H E W Q (row j l e (over s₁ b) ∷ rs) h s = (tt, stack_resumable t H E W (Q + l) rs h s.2)
+stack_resumable t H E W Q (row j l e st ∷ rs) h s =
+    let below = λ (E W : ℕ). stack_resumable t H E W (Q + l) rs in
+    grind (arith, nat_tests, below)
 
 -- A running job is the first that has started.
 stack_top :
@@ -75,16 +66,9 @@ stack_handed :
     → Handed H D Q rs
     → H ≤ Q + summed budget_of rs
 stack_handed f t E W H D Q [] s h = omega arith
-stack_handed f t E W H D Q (row j l e waiting ∷ rs) s h =
-    omega (arith, s.0, stack_handed f t E (W + l) H D (Q + l) rs s.2 h.1)
-stack_handed true t E W H D Q (row j l e (running b) ∷ rs) s h =
-    omega (arith, s.0, stack_handed false t b W H D (Q + l) rs s.2 h.1)
-stack_handed false t E W H D Q (row j l e (running b) ∷ rs) s h = absurd s
-stack_handed true t E W H D Q (row j l e (aside b n) ∷ rs) s h = absurd s
-stack_handed false t E W H D Q (row j l e (aside b n) ∷ rs) s h =
-    omega (arith, s.0, stack_handed false t (b + E - n) W H D (Q + l) rs s.2 h.1)
-stack_handed f t E W H D Q (row j l e (over s₁ b) ∷ rs) s h =
-    omega (arith, s.0, stack_handed f t E W H D (Q + l) rs s.2 h.1)
+stack_handed f t E W H D Q (row j l e st ∷ rs) s h =
+    let below = λ (f : Bool) (E W : ℕ). stack_handed f t E W H D (Q + l) rs in
+    grind (arith, nat_tests, below)
 
 -- The front job is chosen well.
 abbrev FrontWell : Bool → ℕ → ℕ → ℕ → ℕ → Option SlowRow → Type 0
@@ -117,16 +101,8 @@ stack_front :
     → Handed H D Q rs
     → FrontWell f t H D L (front rs)
 stack_front f t H D Q L [] q m s h = tt
-stack_front f t H D Q L (row j l e waiting ∷ rs) q m s h =
-    chosen_front f t H D Q L j l e waiting rs refl q (omega (arith, s.0)) s h tt
-stack_front true t H D Q L (row j l e (running b) ∷ rs) q m s h =
-    chosen_front true t H D Q L j l e (running b) rs refl q (omega (arith, s.0)) s h tt
-stack_front false t H D Q L (row j l e (running b) ∷ rs) q m s h = absurd s
-stack_front true t H D Q L (row j l e (aside b n) ∷ rs) q m s h = absurd s
-stack_front false t H D Q L (row j l e (aside b n) ∷ rs) q m s h =
-    chosen_front false t H D Q L j l e (aside b n) rs refl q (omega (arith, s.0)) s h refl
-stack_front f t H D Q L (row j l e (over s₁ b) ∷ rs) q m s h =
-    stack_front f t H D (Q + l) L rs (omega arith) (omega (arith, s.0)) s.2 h.1
+stack_front f t H D Q L (row j l e st ∷ rs) q m s h =
+    grind (arith, nat_tests, chosen_front f t H D Q L j l e st rs, stack_front f t H D (Q + l) L rs)
 
 sound_state : (s : State) → Invariant s → Sound (slow s)
 sound_state s v =
@@ -176,8 +152,7 @@ sound_state s v =
     within = omega (arith, summed-sorted budget_of s.rows ∙ summed-budgets s.rows)
 
     one_at_most : (f : Bool) → cond f 1 0 ≤ 1
-    one_at_most true = omega arith
-    one_at_most false = omega arith
+    one_at_most f = grind (arith, nat_tests)
 
     running-one : how_many runs (map slow_row s.rows) ≡ cond f 1 0
     running-one =

@@ -1,10 +1,10 @@
 -- A tick of both runs keeps the invariant.
-use Rattle.std.proofs.Common.{◌≡◌, ℕ, zero, suc, ◌+◌, ◌<◌, ◌≤◌, Bool, true, false, not, ◌||◌, leb, ◌⊎◌, List, [], ◌∷◌, Some, None, Option, sym, refl, subst, inl, inr, ⊎_elim, arith}
-use Rattle.std.proofs.lemmas.Bool.{cond_both, leb-false, or_parts}
+use Rattle.std.proofs.Common.{◌≡◌, ℕ, zero, suc, ◌+◌, ◌<◌, ◌≤◌, Bool, true, false, not, ◌⊎◌, List, [], ◌∷◌, Some, None, Option, subst, inl, arith}
+use Rattle.std.proofs.lemmas.Bool.Decides.{nat_tests}
 use Rattle.cues.specs.Demand.{Job}
-use Rattle.runs.specs.SlowRun.{Stage, waiting, running, aside, over, SlowRow, runs, pending, settled, handed_on}
+use Rattle.runs.specs.SlowRun.{Stage, over, SlowRow, runs, pending, settled}
 use Rattle.runs.specs.NeverBehind.{NotBehind}
-use Rattle.runs.proofs.SortedRun.{Both, row, ended, serve_first, front, yield, others, bound_at, stage_at, rows_at, runs_at, bound_on, deadline_on, Ahead, Sorted}
+use Rattle.runs.proofs.SortedRun.{Both, row, ended, serve_first, front, others, bound_at, stage_at, rows_at, runs_at, bound_on, deadline_on, Ahead, Sorted}
 use Rattle.runs.proofs.Stack.{Stack, Before, Handed}
 use Rattle.runs.proofs.ChosenFits.{Fits, chosen_fits, not-behind_on}
 
@@ -13,10 +13,7 @@ handed-all H D Q [] a = a
 handed-all H D Q (row j l e st ∷ rs) a = (inl a, handed-all H D (Q + l) rs (omega arith))
 
 before_due : (st : Stage) (d D : ℕ) → Before st d D → d ≤ D
-before_due waiting d D b = omega arith
-before_due (running c) d D b = b
-before_due (aside c n) d D b = b
-before_due (over s c) d D b = b
+before_due st d D b = grind (arith, nat_tests)
 
 -- The chosen job, if there is one, is due at d or later.
 abbrev DueFrom : ℕ → Option SlowRow → Type 0
@@ -25,10 +22,7 @@ DueFrom d (Some m) = d ≤ m.job.deadline
 
 front-due : (d : ℕ) (rs : List Both) → Ahead d rs → DueFrom d (front rs)
 front-due d [] a = tt
-front-due d (row j l e waiting ∷ rs) a = a.0
-front-due d (row j l e (running b) ∷ rs) a = a.0
-front-due d (row j l e (aside b n) ∷ rs) a = a.0
-front-due d (row j l e (over s b) ∷ rs) a = front-due d rs a.1
+front-due d (row j l e st ∷ rs) a = grind (arith, nat_tests, front-due d rs a.1)
 
 -- What a tick leaves of the invariant, for the job m that it chose.
 abbrev pub Kept : Bool → Bool → ℕ → ℕ → ℕ → ℕ → Option SlowRow → List Both → Type 0
@@ -38,12 +32,6 @@ Kept early f t H D Q m rs =
 
 -- One tick at clock t, with the handed bound H and deadline D.
 module _ (early : Bool) (t H D : ℕ) where
-  -- The stage of a job after its tick.
-  settled_cases : (bound : ℕ) (P : Stage → Type 0) → P (over (t + 1) bound) → (t + 1 < bound → P (running bound)) → P (settled early (t + 1) bound)
-  settled_cases bound P ended goes_on =
-      cond_both (early || leb bound (t + 1)) (over (t + 1) bound) (running bound) P (λ _. ended)
-      (λ v. goes_on (omega (arith, leb-false bound (t + 1) (or_parts early (leb bound (t + 1)) v).1)))
-
   -- If the reference run ends the chosen job in this tick, its bound has come, so it is over here too.
   settled-not_behind :
       (b : ℕ) (st : Stage) (l : ℕ) (e : Option ℕ)
@@ -52,8 +40,7 @@ module _ (early : Bool) (t H D : ℕ) where
       → b ≤ t + suc l
       → NotBehind st e
       → NotBehind (settled early (t + 1) b) (ended (t + 1) l e)
-  settled-not_behind b st zero e p a c n = settled_cases b (λ st. NotBehind st (Some (t + 1))) (omega arith) (λ late. absurd (omega arith))
-  settled-not_behind b st (suc l) e p a c n = not-behind_on st (settled early (t + 1) b) e p n
+  settled-not_behind b st l e p a c n = grind (arith, nat_tests, not-behind_on st (settled early (t + 1) b) e p n)
 
   over-not_behind :
       (s b l : ℕ) (e : Option ℕ)
@@ -61,26 +48,16 @@ module _ (early : Bool) (t H D : ℕ) where
       → b ≤ t + suc l
       → NotBehind (over s b) e
       → NotBehind (over s b) (ended (t + 1) l e)
-  over-not_behind s b zero e a c n = omega arith
-  over-not_behind s b (suc l) e a c n = n
+  over-not_behind s b l e a c n = grind (arith, nat_tests)
 
   rows_at_over :
       (f : Bool) (m : Option SlowRow) (j : Job) (l : ℕ) (e : Option ℕ) (s b : ℕ) (rs : List Both)
       → rows_at early f t H D m (row j l e (over s b) ∷ rs) ≡ (row j l e (over s b) ∷ rows_at early f t H D m rs)
-  rows_at_over f None j l e s b rs = refl
-  rows_at_over f (Some m) j l e s b rs = refl
+  rows_at_over f m j l e s b rs = grind (arith, nat_tests)
 
   handed-yields : (switch : Bool) (Q : ℕ) (rs : List Both) → Handed H D Q rs → Handed H D Q (others switch t rs)
   handed-yields x Q [] h = h
-  handed-yields x Q (row j l e st ∷ rs) h =
-      (⊎_elim inl (λ b. inr (yields x st j.deadline b)) h.0, handed-yields x (Q + l) rs h.1)
-    where
-      yields : (x : Bool) (st : Stage) (d : ℕ) → Before st d D → Before (yield x t st) d D
-      yields x waiting d b = b
-      yields true (running c) d b = b
-      yields false (running c) d b = b
-      yields x (aside c n) d b = b
-      yields x (over s c) d b = b
+  handed-yields x Q (row j l e st ∷ rs) h = grind (arith, nat_tests, handed-yields x (Q + l) rs h.1)
 
   -- A place above the chosen job.
   handed-above :
@@ -89,15 +66,10 @@ module _ (early : Bool) (t H D : ℕ) where
       → DueFrom d m
       → (H ≤ Q) ⊎ (d ≤ D)
       → (bound_on early f t H D m ≤ Q') ⊎ (d ≤ deadline_on early f t H D m)
-  handed-above f None d Q Q' q a h = ⊎_elim (λ c. inl (omega arith)) inr h
-  handed-above f (Some m) d Q Q' q a h =
-      settled_cases (bound_at f t H D m)
-      (λ st. (handed_on st (bound_at f t H D m) H ≤ Q') ⊎ (d ≤ handed_on st m.job.deadline D)) (inr a)
-      (λ late. ⊎_elim (λ c. inl (omega arith)) inr h)
+  handed-above f m d Q Q' q a h = grind (arith, nat_tests)
 
   kept_idle : (f : Bool) (Q Q' : ℕ) → Q ≤ Q' → Stack t f H 0 Q [] → Handed H D Q [] → Kept early f t H D Q' None []
-  kept_idle true Q Q' q s h = absurd s
-  kept_idle false Q Q' q s h = (tt, omega arith)
+  kept_idle f Q Q' q s h = grind (arith, nat_tests)
 
   -- The chosen job, over or running after its tick, with the ticks l' left and the end e' that the reference run leaves it.
   kept_chosen :
@@ -115,23 +87,18 @@ module _ (early : Bool) (t H D : ℕ) where
       early f t H D Q' (Some (record { job = j; stage = st }))
       (row j l' e' (stage_at early f t H D (record { job = j; stage = st })) ∷ others (not (runs st)) t rs)
   kept_chosen f Q Q' j l l' e e' st rs p a q r m left n s h =
-      settled_cases bound
-      (λ st'.
-      NotBehind st' e'
-      → Stack (t + 1) (runs st') (handed_on st' bound H) 0 Q' (row j l' e' st' ∷ below)
-      × Handed (handed_on st' bound H) (handed_on st' j.deadline D) Q' (row j l' e' st' ∷ below))
-      (λ k. (
-        (omega (arith, fits.0, in_time), k, stands),
-        (inr (omega arith), handed-all bound j.deadline (Q' + l') below in_time),
-      ))
-      (λ late k. (
-        (omega (arith, late, in_time, left bound late in_time), k, stands),
-        (
-          ⊎_elim (λ c. inl (omega arith)) (λ c. inr (before_due st j.deadline D c)) h.0,
-          handed-yields (not (runs st)) (Q' + l') rs (subst (λ q. Handed H D q rs) r h.1),
-        ),
-      ))
-      (n bound fits.0 in_time)
+      grind (
+        arith,
+        nat_tests,
+        fits,
+        in_time,
+        stands,
+        left bound,
+        n bound,
+        handed-all bound j.deadline (Q' + l') below in_time,
+        before_due st j.deadline D,
+        handed-yields (not (runs st)) (Q' + l') rs (subst (λ q. Handed H D q rs) r h.1),
+      )
     where
       bound : ℕ
       bound = bound_at f t H D (record { job = j; stage = st })
@@ -192,11 +159,7 @@ module _ (early : Bool) (t H D : ℕ) where
       → Kept early f t H D (Q' + l) (front below) (rows_at early f t H D (front below) rs)
       → Kept early f t H D Q' (front below) (rows_at early f t H D (front below) (row j l e (over s b) ∷ rs))
   kept_over f Q Q' j l e s b below rs q a n d h k =
-      subst (Kept early f t H D Q' (front below))
-      (sym (rows_at_over f (front below) j l e s b rs)) (
-        (a, n, k.0),
-        (handed-above f (front below) j.deadline Q Q' q (front-due j.deadline below d) h, k.1),
-      )
+      grind (arith, nat_tests, rows_at_over f (front below) j l e s b rs, handed-above f (front below) j.deadline Q Q' q (front-due j.deadline below d) h)
 
   -- The tick below the place where the reference run has spent it.
   kept_later :
@@ -208,17 +171,10 @@ module _ (early : Bool) (t H D : ℕ) where
       → Handed H D Q rs
       → Kept early f t H D Q' (front rs) (rows_at early f t H D (front rs) rs)
   kept_later f Q Q' [] a q o s h = kept_idle f Q Q' (omega arith) s h
-  kept_later f Q Q' (row j l e waiting ∷ rs) a q o s h =
-      kept_beside f Q Q' j l e waiting rs refl a q (omega (arith, s.0)) s.1 s h
-  kept_later true Q Q' (row j l e (running b) ∷ rs) a q o s h =
-      kept_beside true Q Q' j l e (running b) rs refl a q (omega (arith, s.0)) s.1 s h
-  kept_later false Q Q' (row j l e (running b) ∷ rs) a q o s h = absurd s
-  kept_later true Q Q' (row j l e (aside b n) ∷ rs) a q o s h = absurd s
-  kept_later false Q Q' (row j l e (aside b n) ∷ rs) a q o s h =
-      kept_beside false Q Q' j l e (aside b n) rs refl a q (omega (arith, s.0)) s.1 s h
   kept_later f Q Q' (row j l e (over s₁ b) ∷ rs) a q o s h =
       kept_over f Q Q' j l e s₁ b rs rs (omega arith) (omega (arith, s.0)) s.1 o.0 h.0
       (kept_later f (Q + l) (Q' + l) rs (omega arith) (omega arith) o.1 s.2 h.1)
+  kept_later f Q Q' (row j l e st ∷ rs) a q o s h = grind (arith, nat_tests, kept_beside f Q Q' j l e st rs)
 
   -- The whole tick. The reference run spends it at the first job with ticks left, which is the chosen job or above it, since
   -- pending jobs have ticks left; nothing is left above that job.
@@ -231,23 +187,12 @@ module _ (early : Bool) (t H D : ℕ) where
       → Handed H D Q rs
       → Kept early f t H D Q' (front rs) (rows_at early f t H D (front rs) (serve_first (t + 1) rs))
   kept_tick f Q Q' [] q q' o s h = kept_idle f Q Q' (omega arith) s h
-  kept_tick f Q Q' (row j zero e waiting ∷ rs) q q' o s h = absurd (omega (arith, s.0))
-  kept_tick true Q Q' (row j zero e (running b) ∷ rs) q q' o s h = absurd (omega (arith, s.0))
-  kept_tick false Q Q' (row j zero e (running b) ∷ rs) q q' o s h = absurd s
-  kept_tick true Q Q' (row j zero e (aside b n) ∷ rs) q q' o s h = absurd s
-  kept_tick false Q Q' (row j zero e (aside b n) ∷ rs) q q' o s h = absurd (omega (arith, s.0))
   kept_tick f Q Q' (row j zero e (over s₁ b) ∷ rs) q q' o s h =
       kept_over f Q Q' j zero e s₁ b rs (serve_first (t + 1) rs) (omega arith) (omega (arith, s.0)) s.1 o.0 h.0
       (kept_tick f (Q + 0) (Q' + 0) rs (omega arith) (omega arith) o.1 s.2 h.1)
-  kept_tick f Q Q' (row j (suc l) e waiting ∷ rs) q q' o s h =
-      kept_served f Q Q' j l e waiting rs refl q q' (omega (arith, s.0)) s.1 s h
-  kept_tick true Q Q' (row j (suc l) e (running b) ∷ rs) q q' o s h =
-      kept_served true Q Q' j l e (running b) rs refl q q' s.0.0 s.1 s h
-  kept_tick false Q Q' (row j (suc l) e (running b) ∷ rs) q q' o s h = absurd s
-  kept_tick true Q Q' (row j (suc l) e (aside b n) ∷ rs) q q' o s h = absurd s
-  kept_tick false Q Q' (row j (suc l) e (aside b n) ∷ rs) q q' o s h =
-      kept_served false Q Q' j l e (aside b n) rs refl q q' s.0.0 s.1 s h
+  kept_tick f Q Q' (row j zero e st ∷ rs) q q' o s h = absurd (grind (arith, nat_tests))
   kept_tick f Q Q' (row j (suc l) e (over s₁ b) ∷ rs) q q' o s h =
       kept_over f Q Q' j l (ended (t + 1) l e) s₁ b rs rs (omega arith) (omega (arith, s.0))
       (over-not_behind s₁ b l e s.0.1 (omega (arith, s.0)) s.1) o.0 h.0
       (kept_later f (Q + suc l) (Q' + l) rs (omega arith) (omega arith) o.1 s.2 h.1)
+  kept_tick f Q Q' (row j (suc l) e st ∷ rs) q q' o s h = grind (arith, nat_tests, kept_served f Q Q' j l e st rs)
