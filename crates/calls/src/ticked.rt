@@ -4,6 +4,7 @@ use rates::Level;
 use renderers::answer::Answer;
 
 /// One tick of a day.
+// An enum of its own and no option: what a tick answers names both cases.
 #[derive(Clone, Copy, PartialEq, Eq, Debug)]
 pub enum Ticked {
     /// No job is pending.

@@ -16,7 +16,7 @@ mod tests {
     use std::alloc::Global;
     use std::test::Fail;
 
-    // A list of cues, each as (release, deadline, budget).
+    /// A list of cues, each as (release, deadline, budget).
     fn list_of(heap: Global, rows: &[(u32, u32, u32)]) -> Result<CueList, Fail> {
         let mut list = CueList::new(heap);
         for (release, deadline, budget) in rows {

@@ -25,7 +25,7 @@ impl CueList {
     }
 }
 
-// The cues of a list in the order of their deadlines.
+/// The cues of a list in the order of their deadlines.
 #[derive(Drop)]
 struct Dues {
     cues: Vec<Cue>,
@@ -42,7 +42,7 @@ impl Dues {
         Ok(Dues { cues })
     }
 
-    // The cues that are due after the start.
+    /// The cues that are due after the start.
     fn after(&self, start: u32) -> &[Cue]
         ensures { (late : _) × DueAfter start self.now.cues.items late × (result.now ≡ drop late self.now.cues.items) }
     {
@@ -53,7 +53,7 @@ impl Dues {
         &self.cues[late..]
     }
 
-    // The best candidate from the release of each cue. The candidates of one release are written over those of the one before.
+    /// The best candidate from the release of each cue. The candidates of one release are written over those of the one before.
     fn best_from_each(&self, heap: Global, cues: &[Cue]) -> Result<Vec<Load>, AllocError>
         requires { ByDeadline cues.now self.now.cues.items }
         ensures { IfOk result (λ bests. Bests cues.now self.now.cues.items bests.items) }
@@ -66,7 +66,7 @@ impl Dues {
         Ok(bests)
     }
 
-    // The best candidate from a start after which some cue is due.
+    /// The best candidate from a start after which some cue is due.
     fn best_from(&self, start: u32, candidates: &mut Vec<Load>) -> Result<Load, AllocError>
         requires { DueLater start self.now.cues.items }
         ensures { IfOk result (λ best. BestFrom start self.now.cues.items best) }
@@ -78,9 +78,9 @@ impl Dues {
         Ok(candidates[place])
     }
 
-    // Writes the candidate from the start to each later deadline. A cue that is due by the start was released before it, so the
-    // sum begins with the first later one. Inside a run of equal deadlines the sum still lacks some cues; the last of the run has
-    // them all. Nothing wraps: the budgets of 1,024 cues fit, and each later deadline is past the start.
+    /// Writes the candidate from the start to each later deadline. A cue that is due by the start was released before it, so the
+    /// sum begins with the first later one. Inside a run of equal deadlines the sum still lacks some cues; the last of the run has
+    /// them all. Nothing wraps: the budgets of 1,024 cues fit, and each later deadline is past the start.
     fn write_candidates(&self, start: u32, candidates: &mut Vec<Load>) -> Result<(), AllocError>
         ensures { OnOk result (Written start self.now.cues.items candidates.new.items) }
     {
@@ -101,7 +101,7 @@ impl Dues {
     }
 }
 
-// The first of the best candidates, as a tuple.
+/// The first of the best candidates, as a tuple.
 fn first_of_bests(bests: &[Load]) -> (u32, u32, u32, u32)
     ensures { FirstOfBests bests.now result }
 {

@@ -19,6 +19,7 @@ const MOST_BYTES: u64 = 65_536;
 fn main(rt: HostRuntime) -> io::Result<()> {
     let heap = rt.alloc();
     let mut bytes = Vec::new(heap);
+    // Three calls of the library, which the other program makes too: a crate for them would be no shorter.
     rt.stdin().take(MOST_BYTES).read_to_end(&mut bytes)?;
     match prepare(heap, bytes.as_slice()) {
         Ok(Prepared { table, script }) => print!(rt; "{}", rehearse(heap, table, &script)?),
