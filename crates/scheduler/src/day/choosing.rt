@@ -122,7 +122,7 @@ impl Day {
     fn level_for<P: Policy>(&self, work: Work, policy: &mut P) -> Level
         requires { work.remaining ≤ top_rate (model self.now).rates * work.ticks }
         ensures enough { Sufficient (model self.now).rates work.remaining work.ticks result.0 }
-        ensures told { P.Policy.tells policy.old (model self.now).rates work.remaining work.ticks (Some result.0) policy.new }
+        ensures told { (work.remaining ≤ top_rate (model self.now).rates * work.ticks) × P.Policy.tells policy.old (model self.now).rates work.remaining work.ticks (Some result.0) policy.new }
     {
         policy.choose(&self.table, work).unwrap()
     }

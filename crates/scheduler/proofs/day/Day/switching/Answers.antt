@@ -16,10 +16,3 @@ level_for-level-requires g c =
     let job = c.args.job in
     let enough : ℕ → Type 0 = λ bound. job.remaining ≤ top_rate (rates_of day.table) * (bound - day.clock) in
     subst enough (sym c.bound_of-bound.ensures) (first_fits day job c.requires.0.first).2
-
-pub returns-clause-asked : goal.returns-clause-asked
-returns-clause-asked g c =
-    let day = c.args.self.now in
-    let job = c.args.job in
-    let enough : ℕ → Type 0 = λ bound. job.remaining ≤ top_rate (rates_of day.table) * (bound - day.clock) in
-    (subst enough (sym c.bound_of-bound.ensures) (first_fits day job c.requires.0.first).2, c.level_for-level.ensures.told)
