@@ -44,7 +44,6 @@ impl Day {
     }
 
     /// Why a job is refused, the trace left aside.
-    // Deadline and budget stay two numbers, as the caller gives them: a pair would be made and taken apart again at once.
     fn check_job(&self, deadline: u32, budget: u32) -> Result<(), Refusal>
         ensures { result_err result ≡ release_refusal (model self.now) deadline budget }
     {
