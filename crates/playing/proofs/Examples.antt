@@ -3,7 +3,7 @@ use Rattle.std.proofs.Common.{◌≡◌, ℕ, ◌-◌, ◌≤◌, Bool, true, fa
 use Rattle.std.specs.List.{AllByRecursion}
 use Rattle.std.proofs.ByRecursion.{All-get_or, All-weaker}
 use Rattle.std.proofs.lemmas.Bool.{and_parts, not-true}
-use Rattle.cues.specs.declared.candidate.Candidate.{Candidate}
+use Rattle.cues.specs.declared.load.Load.{Load}
 use Rattle.cues.specs.Demand.{Job, demand}
 use Rattle.cues.specs.Loading.{SomeJob, Loading}
 use Rattle.cues.specs.Orders.{candidate_before}
@@ -61,13 +61,13 @@ of_some_job :
 of_some_job f P j js x h (k, inside, is) = subst P (is j) (All-get_or (λ i. P (f i)) (j ∷ js) k j inside h)
 
 -- No interval from a release to a deadline is before this one.
-abbrev unbeaten_by : List Job → Candidate → Job → Job → Bool
+abbrev unbeaten_by : List Job → Load → Job → Job → Bool
 unbeaten_by js best i j = not (candidate_before (interval js i.release j.deadline) best)
 
-abbrev unbeaten : List Job → Candidate → Bool
+abbrev unbeaten : List Job → Load → Bool
 unbeaten js best = every (λ i. every (unbeaten_by js best i) js) js
 
-module _ (j : Job) (others : List Job) (best : Candidate) where
+module _ (j : Job) (others : List Job) (best : Load) where
   abbrev js : List Job
   js = j ∷ others
 
@@ -116,7 +116,7 @@ module _ (j : Job) (others : List Job) (best : Candidate) where
   loading-by-trial timely starts ends long short e =
       greatest-from-unbeaten j others timely best starts ends long short (λ x y _. found-unbeaten e x y)
 
-abbrev share_of : ℕ → ℕ → ℕ → ℕ → Candidate
+abbrev share_of : ℕ → ℕ → ℕ → ℕ → Load
 share_of demand length start end = record { demand = demand; length = length; start = start; end = end }
 
 loading_factors : LoadingFactors
