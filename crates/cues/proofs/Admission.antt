@@ -1,5 +1,5 @@
--- What the loading factor decides: the list is feasible where its demand is at most its length, and overloaded where it is more.
-use Rattle.std.proofs.Common.{ℕ, ◌-◌, ◌*◌, ◌<◌, ◌≤◌, List, [], ◌∷◌, mul-le-mul_right, mul_comm, le_of_mul-le-mul_right, arith}
+-- What the loading factor decides: the list is feasible where its demand is at most its length.
+use Rattle.std.proofs.Common.{ℕ, ◌-◌, ◌*◌, ◌≤◌, List, [], ◌∷◌, mul-le-mul_right, mul_comm, le_of_mul-le-mul_right, arith}
 use Rattle.cues.specs.Demand.{Job, demand, Feasible}
 use Rattle.cues.specs.Loading.{Loading}
 
@@ -13,8 +13,3 @@ feasible_from_loading (j ∷ js) d l a b factor fits = λ x y lt.
     let long = factor.long in
     let scaled : demand (j ∷ js) x y * l ≤ (y - x) * l = omega (arith, mul_comm l (y - x)) in
     le_of_mul-le-mul_right scaled (omega arith)
-
--- Where it is more, that interval demands more than it has.
-pub overloaded_from_loading : (js : List Job) (d l a b : ℕ) → Loading js d l a b → l < d → (a < b) × (b - a < demand js a b)
-overloaded_from_loading [] d l a b factor over = absurd (omega (arith, factor.0))
-overloaded_from_loading (j ∷ js) d l a b factor over = (factor.rising, omega (arith, factor.long, factor.demands))
