@@ -1,13 +1,9 @@
-use Rattle.std.proofs.Common.{length, ap, ⊎_elim, arith}
+use Rattle.std.proofs.Common.{ap, ⊎_elim}
 use Rattle.scheduler.specs.declared.job.Stage.{Stage}
 use Rattle.scheduler.specs.Day.{paced}
 use Rattle.runs.specs.SlowRun as slow
-use Rattle.scheduler.proofs.KeptPlaces.{place-within, place-stands}
+use Rattle.scheduler.proofs.KeptPlaces.{place-stands}
 use Rattle.scheduler.proofs.day.Day.choose.Goals as goal
-
-pub bounds-deref-place : goal.bounds-deref-place
-bounds-deref-place g c =
-    omega (arith, place-within c.args.self.now c.args.place c.requires, ap length c.deref.ensures.0)
 
 pub going_on-requires : goal.going_on-requires
 going_on-requires g c =

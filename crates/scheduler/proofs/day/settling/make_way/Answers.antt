@@ -1,32 +1,31 @@
-use Rattle.std.proofs.Common.{List, length, get_or, set, sym, ap, ◌∙◌, arith}
+use Rattle.std.proofs.Common.{◌≡◌, ℕ, ◌<◌, List, length, get_or, set, Some, sym, ap, ◌∙◌, arith}
 use Rattle.std.proofs.lemmas.List.{get_or_default}
 use Rattle.scheduler.specs.declared.job.Job.{Job}
 use Rattle.scheduler.specs.declared.job.Stage.{Stage}
 use Rattle.scheduler.specs.Day.{set_aside}
+use Rattle.scheduler.specs.Places.{runner_place}
 use Rattle.scheduler.proofs.Choosing.{no_job}
 use Rattle.scheduler.proofs.Runner.{runner-within, make_way_one, make_way_none}
 use Rattle.scheduler.proofs.Written.{written}
 use Rattle.scheduler.proofs.day.settling.make_way.Goals as goal
 
+-- The place of the job that ran is one of the vector, however it is reached.
+within : (js qs : List Job) (place : ℕ) → runner_place js ≡ Some place → qs ≡ js → place < length qs
+within js qs place at same = omega (arith, runner-within js place at, ap length same)
+
 pub offset_bounds-deref-place : goal.offset_bounds-deref-place
 offset_bounds-deref-place c =
-    let within = runner-within c.args.pending.now.items c.in-Some.place (c.requires.0 ∙ c.in-Some.is) in
-    omega (arith, within, ap length c.deref.ensures.0, c.deref.ensures.1)
+    omega (arith, within _ _ c.in-Some.place (c.requires.0 ∙ c.in-Some.is) c.deref.ensures.0, c.deref.ensures.1)
 
 pub bounds-deref-place : goal.bounds-deref-place
-bounds-deref-place c =
-    let within = runner-within c.args.pending.now.items c.in-Some.place (c.requires.0 ∙ c.in-Some.is) in
-    omega (arith, within, ap length c.deref.ensures.0)
+bounds-deref-place c = within _ _ c.in-Some.place (c.requires.0 ∙ c.in-Some.is) c.deref.ensures.0
 
 pub offset_bounds-deref_mut-place : goal.offset_bounds-deref_mut-place
 offset_bounds-deref_mut-place c =
-    let within = runner-within c.args.pending.now.items c.in-Some.place (c.requires.0 ∙ c.in-Some.is) in
-    omega (arith, within, ap length c.deref_mut.ensures.value, c.deref_mut.ensures.fits)
+    omega (arith, within _ _ c.in-Some.place (c.requires.0 ∙ c.in-Some.is) c.deref_mut.ensures.value, c.deref_mut.ensures.fits)
 
 pub bounds-deref_mut-place : goal.bounds-deref_mut-place
-bounds-deref_mut-place c =
-    let within = runner-within c.args.pending.now.items c.in-Some.place (c.requires.0 ∙ c.in-Some.is) in
-    omega (arith, within, ap length c.deref_mut.ensures.value)
+bounds-deref_mut-place c = within _ _ c.in-Some.place (c.requires.0 ∙ c.in-Some.is) c.deref_mut.ensures.value
 
 pub returns-in-Some : goal.returns-in-Some
 returns-in-Some c =
