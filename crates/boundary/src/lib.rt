@@ -21,9 +21,9 @@ fn demand_after(heap: Global, sheet: &ReadSheet, rounds: u32) -> Result<u32, All
     Ok(demand)
 }
 
-// To C a result is one number, so the largest number stands for every failure.
 /// Reads a sheet, finds its loading factor `rounds` times over, and tells its demand; the largest number for a sheet
 /// that cannot be read or for want of memory. For timing: one round tells as much as many.
+// To C a result is one number, so the largest number stands for every failure.
 #[unsafe(no_mangle)]
 pub extern "C" fn patchbasalt_load(heap: Global, sheet: &[u8], rounds: u32) -> u64
     ensures { Told sheet.now rounds result }

@@ -21,6 +21,7 @@ pub enum Refusal {
     Room { free: usize },
 }
 
+// Methods and no trait of numbered causes: each type lists its own cases, and no caller takes any of them.
 impl Refusal {
     /// The number of the cause.
     pub fn number(&self) -> u32

@@ -1,5 +1,4 @@
-//! How much an interval asks for: what its cues demand, and its length, for its start and its end; and which of two such
-//! intervals comes first.
+//! The load of an interval, and which of two loads comes first.
 ghost use Rattle.std.specs.Prelude.{◌≡◌};
 ghost use Rattle.cues.specs.declared.load.Load.{Load};
 ghost use Rattle.cues.specs.Orders.{candidate_before, candidate_equal};
@@ -7,6 +6,7 @@ ghost use Rattle.cues.specs.CandidateOrder.{candidate_lawful};
 
 use ordering::Before;
 
+/// What the cues of an interval demand, its length, its start and its end.
 #[derive(Clone, Copy, PartialEq, Eq, Debug)]
 pub struct Load {
     pub demand: u32,

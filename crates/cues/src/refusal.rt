@@ -14,6 +14,7 @@ pub enum CueRefusal {
     Deadline { deadline: u32 },
 }
 
+// Methods and no trait of numbered causes: each type lists its own cases, and no caller takes any of them.
 impl CueRefusal {
     pub fn number(&self) -> u32
         ensures { result ≡ number_of self.now }
@@ -42,7 +43,7 @@ pub enum ListRefusal {
 }
 
 impl From<AllocFailed<Cue>> for ListRefusal {
-    ghost from_gives = { λ failed r. r ≡ NoMemory };
+    ghost from_gives = { λ _ r. r ≡ NoMemory };
 
     fn from(_failed: AllocFailed<Cue>) -> ListRefusal {
         Self::NoMemory

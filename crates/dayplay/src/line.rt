@@ -34,7 +34,7 @@ struct TurnPart(Turn);
 #[derive(Clone, Copy)]
 struct EndingPart(Option<Ending>);
 
-// The same twice and no trait of refusals: it would want an impl for each of the two as well.
+// The same twice and no trait of refusals: it would serve these two impls alone.
 impl From<Refusal> for RefusedLine {
     ghost from_gives = { λ refusal line. (line.number ≡ number_of refusal) × (line.value ≡ value_of refusal) };
 

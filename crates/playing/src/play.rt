@@ -67,11 +67,11 @@ fn answer<P: Policy, R: Renderer, T: Trace>(
     }
 }
 
-// Policy, renderer and trace are no struct: each has a clause of its own, and a tick borrows all three for one call.
 /// Plays a list of calls, one after the other, on a fresh day, and gives that day and every call's answer.
 ///
 /// Of the whole list, over any rate table, policy and renderer, recorded or not, it promises the law: the day is never
 /// behind the full-speed reference run of the jobs that were accepted.
+// Policy, renderer and trace are no struct: each has a clause of its own, and a tick borrows all three for one call.
 pub fn play<P: Policy, R: Renderer, T: Trace>(
     heap: Global,
     table: RateTable,

@@ -15,9 +15,9 @@ pub trait Policy {
     // remaining units, the ticks, the number that it answers and its state after. A policy need not tell anything.
     ghost tells: { Self → List ℕ → ℕ → ℕ → Option ℕ → Self → Type 0 } = { λ _ _ _ _ _ _. Unit {0} };
 
-    // The table stays apart from the work: a day has one table, and new work at each switch.
     /// A level of the table whose rate times the ticks is at least what remains, and none exactly when the top rate
     /// is too slow for it.
+    // The table stays apart from the work: a day has one table, and new work at each switch.
     fn choose(&mut self, table: &RateTable, work: Work) -> Option<Level>
         ensures meaning { Answers (rates_of table.now) work.remaining work.ticks (numbered result) }
         ensures told { tells self.old (rates_of table.now) work.remaining work.ticks (numbered result) self.new };

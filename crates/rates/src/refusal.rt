@@ -12,6 +12,7 @@ pub enum TableRefusal {
     WrongRateAt(usize),
 }
 
+// Methods and no trait of numbered causes: each type lists its own cases, and no caller takes any of them.
 impl TableRefusal {
     /// The number that the box shows for this cause.
     pub fn number(&self) -> u32

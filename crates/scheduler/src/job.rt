@@ -14,6 +14,7 @@ pub enum Stage {
 }
 
 /// A pending job: its number, deadline and budget, the units that remain of it, and how far it has come.
+// Its default fills the places of the day's vector in which no job stands.
 #[derive(Clone, Copy, Default)]
 pub struct Job {
     pub number: u32,

@@ -167,6 +167,7 @@ fn read_words(heap: Global, words: &[u32]) -> Result<Script, ScriptError>
 }
 
 /// Reads the bytes of a script, four to a word. A last word that is cut short is missing.
+// As a sheet is read, and no function for both: it would take the reader and the fault as closures, for three steps.
 pub fn read_script(heap: Global, bytes: &[u8]) -> Result<Script, ScriptError>
     ensures read { ReadBytesAs bytes.now result }
     ensures written { WrittenBytes bytes.now result }

@@ -99,6 +99,7 @@ fn read_cues(heap: Global, first: Unread<'_>) -> Result<CueList, ReadError>
 }
 
 /// What is wrong with a sheet that has no head.
+// No `From`: both types belong to other crates.
 fn not_headed(error: HeadError) -> ReadError
     ensures { result ≡ not_headed error }
 {

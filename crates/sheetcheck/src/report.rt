@@ -42,6 +42,7 @@ fn summary_of(heap: Global, sheet: ReadSheet) -> Result<Summary, AllocError>
     let table = *sheet.table();
     let cues = sheet.cues().len();
     let load = Load::from(sheet.loading_factor(heap)?);
+    // A match and no `map_err`, here and above: where memory was wanting, the `?` leaves the whole function.
     let verdict = match sheet.admit(heap) {
         Ok(_) => Ok(()),
         Err(refused) => Err(refused.why.fault()?),

@@ -11,6 +11,7 @@ pub enum WordFault {
     EndsEarly,
 }
 
+// Methods and no trait of numbered causes: each type lists its own cases, and no caller takes any of them.
 impl WordFault {
     /// 9 for a word that cannot stand here, 10 for words that end early.
     pub fn number(&self) -> u32

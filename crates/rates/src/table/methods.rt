@@ -35,10 +35,10 @@ fn check(rates: &[u32]) -> Result<(), TableRefusal>
     if count == 0 || count > MOST_LEVELS {
         return Err(TableRefusal::WrongLevelCount(count));
     }
-    match first_wrong_rate(rates) {
-        Some(place) => Err(TableRefusal::WrongRateAt(place)),
-        None => Ok(()),
+    if let Some(place) = first_wrong_rate(rates) {
+        return Err(TableRefusal::WrongRateAt(place));
     }
+    Ok(())
 }
 
 /// The rates at the front of a table's places, with 0 in those that are left.

@@ -18,8 +18,8 @@ use calls::ticked::Switch;
 use rates::{Level, Policy, Work};
 
 impl Day {
-    /// The first job, with all that is decided before it runs. The policy is asked where the job did not run in the tick
-    /// before.
+    /// The first job, which stands at this place, with all that is decided before it runs. The policy is asked where the
+    /// job did not run in the tick before.
     pub(super) fn choose<P: Policy>(&self, place: usize, policy: &mut P) -> Chosen
         requires { first_place (model self.now).pending ≡ Some place }
         ensures chosen { Chooses (model self.now) result }

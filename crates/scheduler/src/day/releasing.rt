@@ -22,7 +22,7 @@ const LARGEST_SUM: u32 = 134_217_727;
 
 impl Day {
     /// Releases a job with its deadline and budget, and answers its number.
-    // Two numbers and no struct of them: a caller has them apart, and each is checked, kept and recorded by itself.
+    // Two numbers and no struct of them: each is checked, kept and recorded by itself.
     pub fn release<T: Trace>(
         &mut self,
         deadline: u32,

@@ -25,6 +25,7 @@ impl ReadSheet {
     }
 
     /// Reads the bytes of a sheet, four to a word. A last word that is cut short ends the words early.
+    // As a script is read, and no function for both: it would take the reader and the fault as closures, for three steps.
     pub fn from_bytes(heap: Global, bytes: &[u8]) -> Result<ReadSheet, ReadError>
         ensures read { ReadBytesAs bytes.now result }
         ensures written { WrittenBytes bytes.now result }

@@ -9,7 +9,7 @@ pub returns : goal.returns
 returns c =
     let dues = c.args.self.now.cues.items in
     let candidates = c.write_candidates.new.candidates.items in
-    let place = c.in-Some.place in
+    let place = c.unwrap-place.result in
     subst (BestFrom c.args.start dues) (sym c.index.ensures)
     (best_from_first c.args.start dues candidates place c.index.result.now c.in_ok-write_candidates.ensures
-    (subst (λ xs. First candidate_before candidate_equal xs place) c.as_slice.ensures.value c.in-Some.ensures))
+    (subst (λ xs. First candidate_before candidate_equal xs place) c.as_slice.ensures.value (rw c.unwrap-place.ensures at c.first_of.ensures)))
