@@ -38,7 +38,8 @@ impl Dues {
     fn new(heap: Global, list: &CueList) -> Result<Dues, AllocError>
         ensures { IfOk result (λ dues. ByDeadline (cues_of list.now) dues.cues.items) }
     {
-        let mut cues = Vec::from_slice(heap, list.as_slice())?;
+        // Collected and not copied as a slice: that copies by a function of C, which the archive for C then wants from outside.
+        let mut cues: Vec<Cue> = list.as_slice().iter().copied().collect(heap)?;
         cues.sort_unstable_by_key(|cue| cue.deadline());
         Ok(Dues { cues })
     }

@@ -17,8 +17,8 @@ pub struct Line(pub Result<Reply, Refusal>);
 /// The line of a refusal: its number and its value.
 #[derive(Clone, Copy)]
 pub struct RefusedLine {
-    number: u32,
-    value: usize,
+    pub number: u32,
+    pub value: usize,
 }
 
 // The parts of a tick's line. Each is a type, since this crate can write `Display` for its own types alone.

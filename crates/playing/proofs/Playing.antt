@@ -151,3 +151,6 @@ pub gone_on_as :
     → GoneOn asks runs s t h h' p p' r r' ys
 gone_on_as {asks = asks} {runs = runs} {s = s} {t = t} {h = h} {h' = h'} {p = p} {p' = p'} {r = r} {r' = r'} e gone =
     subst (GoneOn asks runs s t h h' p p' r r') e gone
+
+pub so_far_as : {s t : Recorded} {h h' : Heard} {xs ys : List Exchange} → xs ≡ ys → SoFar s t h h' xs → SoFar s t h h' ys
+so_far_as {s} {t} {h} {h'} e far = subst (SoFar s t h h') e far

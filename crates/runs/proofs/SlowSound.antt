@@ -1,7 +1,8 @@
 -- What holds in every slowed run by itself, read off the invariant.
-use Rattle.std.proofs.Common.{◌≡◌, ℕ, ◌+◌, ◌-◌, ◌<◌, ◌≤◌, Bool, true, false, cond, List, [], ◌∷◌, map, Some, None, Option, sym, refl, ap, ◌∙◌, subst, arith}
+use Rattle.std.proofs.Common.{◌≡◌, ℕ, ◌+◌, ◌-◌, ◌<◌, ◌≤◌, Bool, true, false, cond, leb, List, [], ◌∷◌, map, Some, None, Option, sym, refl, ap, ◌∙◌, subst, arith}
 use Rattle.std.specs.List.{AllByRecursion}
 use Rattle.std.proofs.ByRecursion.{All-map}
+use Rattle.std.proofs.lemmas.Bool.{cond_both}
 use Rattle.std.proofs.lemmas.Bool.Decides.{nat_tests}
 use Rattle.cues.specs.Demand.{Job}
 use Rattle.runs.specs.SlowRun
@@ -167,6 +168,41 @@ sound_state s v =
 pub slow-run_sound : (cs : List Call) → Budgeted cs → Sound (SlowRun.run SlowRun.fresh cs)
 slow-run_sound cs p =
     subst Sound (slow-of_run both_fresh cs) (sound_state (both_run both_fresh cs) (invariant_always cs p))
+
+-- The chosen job is one of the jobs, and its stage passes the test.
+abbrev ChosenHas : (SlowRow → Type 0) → Option SlowRow → Type 0
+ChosenHas P None = Unit {0}
+ChosenHas P (Some m) = P m
+
+chosen_has :
+    (P : SlowRow → Type 0) (test : Stage → Bool) (rows : List SlowRow)
+    → AllByRecursion P rows
+    → ChosenHas (λ m. (test m.stage ≡ true) × P m) (first test rows)
+chosen_has P test [] h = tt
+chosen_has P test (r ∷ rs) h = go (test r.stage) (first test rs) refl (chosen_has P test rs h.1)
+  where
+    go :
+        (v : Bool) (o : Option SlowRow)
+        → test r.stage ≡ v
+        → ChosenHas (λ m. (test m.stage ≡ true) × P m) o
+        → ChosenHas (λ m. (test m.stage ≡ true) × P m) (cond v (Some (earlier r o)) o)
+    go false o e k = k
+    go true None e k = (e, h.0)
+    go true (Some q) e k =
+        cond_both
+        (leb r.job.deadline q.job.deadline)
+        r
+        q
+        (λ m. (test m.stage ≡ true) × P m)
+        (λ _. (e, h.0))
+        (λ _. k)
+
+pub first-has :
+    (P : SlowRow → Type 0) (test : Stage → Bool) (rows : List SlowRow) (m : SlowRow)
+    → AllByRecursion P rows
+    → first test rows ≡ Some m
+    → (test m.stage ≡ true) × P m
+first-has P test rows m h e = subst (ChosenHas (λ m. (test m.stage ≡ true) × P m)) e (chosen_has P test rows h)
 
 -- The job that the next tick chooses is chosen well.
 pub chosen_well_at : (s : Slow) (m : SlowRow) → Sound s → first pending s.rows ≡ Some m → ChosenWell s (Some m)

@@ -13,7 +13,9 @@ impl Before for Job {
 
     ghost lawful = { lexical (by_number (λ j. j.deadline)) (by_number (λ j. j.number)) };
 
+    // Field by field and not as tuples: those are compared without a branch, which takes a busy day half as long again.
     fn is_before(&self, other: &Job) -> bool {
-        (self.deadline, self.number) < (other.deadline, other.number)
+        self.deadline < other.deadline
+            || (self.deadline == other.deadline && self.number < other.number)
     }
 }

@@ -111,6 +111,11 @@ fn next_part(left: Unread<'_>, ticks: u32) -> Result<(Part, Unread<'_>), ScriptE
 fn push_ticks(calls: &mut Vec<Call>, count: u32) -> Result<(), ScriptError>
     ensures { elim result [ Ok done ↦ calls.new.items ≡ calls.old.items ++ replicate count Tick | Err e ↦ e ≡ NoMemory ] }
 {
+    // Room by powers of two, as pushing takes it: an exact room would be doubled by the call that comes next.
+    let wanted = calls.len().saturating_add(count as usize);
+    if let Some(room) = wanted.checked_next_power_of_two() {
+        calls.reserve_exact(room - calls.len())?;
+    }
     calls.extend(repeat_n(Call::Tick, count as usize))?;
     Ok(())
 }

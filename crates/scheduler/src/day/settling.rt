@@ -1,6 +1,7 @@
 //! What a tick that ran a job makes of the day, once the renderer has answered.
 
-ghost use Rattle.std.specs.Prelude.{◌≡◌, ◌<◌, ◌≤◌};
+ghost use Rattle.std.specs.Prelude.{◌≡◌, ◌<◌, ◌≤◌, length};
+ghost use Rattle.std.specs.List.{remove};
 ghost use Rattle.scheduler.specs.Chooses.{Chooses};
 ghost use Rattle.scheduler.specs.Day.{after_run, make_way, told};
 ghost use Rattle.scheduler.specs.Good.{running};
@@ -34,7 +35,7 @@ impl Day {
                 self.running = Some(chosen.place);
             }
             Some(_) => {
-                self.pending.remove(chosen.place);
+                take_out(&mut self.pending, chosen.place);
                 self.first = first_of(self.pending.as_slice());
                 self.running = None;
                 self.handed = Handed {
@@ -62,4 +63,14 @@ fn make_way(
     if let Some(place) = runner {
         pending[place].stage = pending[place].stage.set_aside(clock);
     }
+}
+
+/// Takes the job at a place out; those behind it move up.
+// Not by the vector's `remove`: that moves them by a function of C, which the archive for C then wants from outside.
+fn take_out(pending: &mut ArrayVec<Job, MOST_PENDING>, place: usize)
+    requires { place < length pending.old.items }
+    ensures { pending.new.items ≡ remove pending.old.items place }
+{
+    pending.as_mut_slice().copy_within(place + 1.., place);
+    pending.pop();
 }

@@ -32,8 +32,8 @@ pub invariant_of-self-in-Some : goal.invariant_of-self-in-Some
 invariant_of-self-in-Some c =
     let day = c.args.self.now in
     let chosen = c.args.chosen.now in
-    let pending = c.remove.new.self.items in
-    let is = c.remove.ensures.items ∙ ap (λ (ks : List Job). remove ks chosen.place) c.make_way.ensures in
+    let pending = c.take_out.new.pending.items in
+    let is = c.take_out.ensures ∙ ap (λ (ks : List Job). remove ks chosen.place) c.make_way.ensures in
     record {
       reached = ended-reached day chosen c.requires.chosen c.requires.early pending is;
       first_holds =
@@ -60,7 +60,7 @@ pub returns-in-Some : goal.returns-in-Some
 returns-in-Some c =
     let day = c.args.self.now in
     let chosen = c.args.chosen.now in
-    let is = c.remove.ensures.items ∙ ap (λ (ks : List Job). remove ks chosen.place) c.make_way.ensures in
+    let is = c.take_out.ensures ∙ ap (λ (ks : List Job). remove ks chosen.place) c.make_way.ensures in
     sym
     (is-over day chosen c.requires.chosen c.requires.early c.args.ran.now c.requires.told c.in-Some.field-0 c.in-Some.is
-    ∙ ended day chosen c.requires.chosen c.requires.early c.remove.new.self.items is)
+    ∙ ended day chosen c.requires.chosen c.requires.early c.take_out.new.pending.items is)
