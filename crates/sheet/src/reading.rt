@@ -50,9 +50,11 @@ fn next_cue(left: Unread<'_>) -> Result<Option<Cue>, SheetFault>
     if left.begins_with(Kind::End) {
         return Ok(None);
     }
-    let place = left.place();
-    let cue = cue_here(left).map_err(|fault| (place, fault))?;
-    Ok(Some(cue))
+    // A match and no `map_err`: between one result more and the next the cue is moved piece by piece, for twice the time.
+    match cue_here(left) {
+        Ok(cue) => Ok(Some(cue)),
+        Err(fault) => Err(SheetFault::from((left.place(), fault))),
+    }
 }
 
 /// The end word counts the cues, and nothing follows it.
